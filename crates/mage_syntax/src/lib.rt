@@ -1,0 +1,6 @@
+//! The tree of a source, and the reader of the part of the language that is built.
+#![tactic(auto)]
+
+mod tree;
+
+pub use tree::{ConstExpr, Expr, Item, Source, Stmt};
