@@ -1,2 +1,4 @@
 pub mod Faults
 pub mod Desk
+pub mod DeskFails
+pub mod MemDesk

@@ -3,7 +3,12 @@
 #![tactic(auto)]
 
 mod desk;
+mod desk_fails;
 mod failure;
+mod mem_desk;
 
 pub use desk::Desk;
+pub use desk_fails::DeskFails;
 pub use failure::{DeskError, Failed, Memory};
+pub use mem_desk::MemDesk;
+pub use sqlite_items::Items;

@@ -1,0 +1,6 @@
+pub mod Bytes
+pub mod Words
+pub mod Symbols
+pub mod Places
+pub mod Tokens
+pub mod Laws

@@ -1,4 +1,8 @@
 // What can be wrong with a text.
+ghost use Rattle.std.specs.Prelude.{◌≡◌};
+ghost use Rattle.mage_lex.specs.declared.fault.LangFault.TheVariants as faults;
+
+use mage_base::Memory;
 use std::alloc::{AllocError, AllocFailed};
 use thiserror::Error;
 
@@ -63,13 +67,25 @@ pub enum LangFault {
 }
 
 impl From<AllocError> for LangFault {
+    ghost from_gives = { λ _ fault. fault ≡ faults.Memory };
+
     fn from(_: AllocError) -> Self {
         LangFault::Memory
     }
 }
 
 impl<T: Drop> From<AllocFailed<T>> for LangFault {
+    ghost from_gives = { λ _ fault. fault ≡ faults.Memory };
+
     fn from(_: AllocFailed<T>) -> Self {
+        LangFault::Memory
+    }
+}
+
+impl From<Memory> for LangFault {
+    ghost from_gives = { λ _ fault. fault ≡ faults.Memory };
+
+    fn from(_: Memory) -> Self {
         LangFault::Memory
     }
 }

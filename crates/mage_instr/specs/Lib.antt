@@ -1,0 +1,3 @@
+pub mod Opcodes
+pub mod Sound
+pub mod Trace

@@ -1,0 +1,6 @@
+//! When each page of a step is used next.
+#![tactic(auto)]
+
+mod next;
+
+pub use next::next_uses;
