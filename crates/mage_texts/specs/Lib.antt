@@ -1,0 +1,4 @@
+pub mod Lists
+pub mod InputText
+pub mod OutputText
+pub mod Reading
