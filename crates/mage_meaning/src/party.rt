@@ -1,0 +1,6 @@
+/// Who an input value comes from.
+#[derive(Clone, Copy, Debug, PartialEq, Eq)]
+pub enum Party {
+    Garbler,
+    Evaluator,
+}

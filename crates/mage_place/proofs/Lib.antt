@@ -1,0 +1,12 @@
+pub mod At
+pub mod Changed
+pub mod Given
+pub mod LeastPowers
+pub mod SoundFacts
+pub mod Ended
+pub mod Opens
+pub mod Kept
+pub mod Members
+pub mod Placed
+pub mod Stepped
+pub mod SoundLiterals

@@ -1,0 +1,6 @@
+pub mod Classes
+pub mod Live
+pub mod Places
+pub mod Steps
+pub mod Pages
+pub mod Pools

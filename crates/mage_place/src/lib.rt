@@ -1,0 +1,14 @@
+//! A place in a page for the result of each instruction, and the pages that each instruction needs.
+#![tactic(auto)]
+
+mod classes;
+mod last;
+mod page;
+mod placing;
+mod pool;
+mod pools;
+mod steps;
+mod touched;
+
+pub use classes::class_of;
+pub use placing::place;

@@ -1,0 +1,98 @@
+ghost use Rattle.std.specs.Prelude.{◌≡◌, ◌<◌, ◌≤◌, ℕ, length, IsTrue, IfOk, OnOk, MatchBool, Contains, take};
+ghost use Rattle.mage_instr.specs.Opcodes.{arity_of, has_result, width_of_result};
+ghost use Rattle.mage_instr.specs.declared.instr.TheConstants.{NEVER};
+ghost use Rattle.mage_instr.specs.Sound.{IsSound};
+ghost use Rattle.mage_instr.specs.Trace.{IsTrace};
+ghost use Rattle.mage_place.specs.Live.{class_of_result, touched_by};
+ghost use Rattle.mage_place.specs.Places.{IsPageSize, ArePlaces, nowhere, place_of};
+ghost use Rattle.mage_place.specs.Steps.{AreSteps};
+ghost use Rattle.mage_place.specs.Pools.{IsPool, IsOn, Gives, FreesEnded};
+
+use crate::class_of;
+use crate::last::last_uses;
+use crate::pool::Pool;
+use crate::pools::{free, no_pages, take};
+use crate::steps::trace_of;
+use crate::touched::touched_values;
+use mage_base::Memory;
+use mage_instr::{Instr, Place, Step, result_width};
+use std::alloc::Global;
+
+/// The place of each result in pages of `page` wires, and the pages that each instruction needs. An instruction
+/// without a result has page 0 and offset 0 as its place.
+///
+/// A result goes to the open page of its class with the highest number, at its lowest free place. A page is open
+/// where a live value stands on it and a place is free. Where no page is open, a new one is made.
+pub fn place(alloc: Global, instrs: &[Instr], page: u32) -> Result<(Vec<Place>, Vec<Step>), Memory>
+    requires sound { IsSound instrs.now }
+    requires page { IsPageSize page }
+    ensures places { IfOk result (λ placed. ArePlaces instrs.now page placed.0.items) }
+    ensures steps { IfOk result (λ placed. AreSteps instrs.now placed.0.items placed.1.items) }
+    ensures trace { IfOk result (λ placed. IsTrace placed.1.items) }
+{
+    let places = places_of(alloc, instrs, page)?;
+    let trace = trace_of(alloc, instrs, &places)?;
+    Ok((places, trace))
+}
+
+// The place of each result.
+fn places_of(alloc: Global, instrs: &[Instr], page: u32) -> Result<Vec<Place>, Memory>
+    requires sound { IsSound instrs.now }
+    requires page { IsPageSize page }
+    ensures { IfOk result (λ places. ArePlaces instrs.now page places.items) }
+{
+    let last = last_uses(alloc, instrs)?;
+    let mut pool = no_pages(alloc, page)?;
+    let mut places = Vec::with_capacity(alloc, instrs.len())?;
+    for (t, instr) in instrs.iter().enumerate() {
+        let place = place_result(&mut pool, alloc, *instr)?;
+        places.push(place)?;
+        free_ended(&mut pool, &places, &last, *instr, t as u32)?;
+    }
+    Ok(places)
+}
+
+// A place for the result of an instruction, where it has one.
+fn place_result(pool: &mut Pool, alloc: Global, instr: Instr) -> Result<Place, Memory>
+    requires pool { IsPool pool.old }
+    requires width { (1 ≤ instr.width) × (instr.width ≤ 64) }
+    requires wires { (64 ≤ pool.old.wires) × (pool.old.wires ≤ 65536) }
+    requires few { length pool.old.pages.items < NEVER }
+    ensures pool { OnOk result (IsPool pool.new) }
+    ensures wires { OnOk result (pool.new.wires ≡ pool.old.wires) }
+    ensures given { IfOk result (λ place. MatchBool (has_result instr.op)
+        (Gives pool.old.pages.items pool.new.pages.items pool.old.wires (class_of_result instr) place)
+        ((pool.new ≡ pool.old) × (place ≡ nowhere))) }
+{
+    match result_width(instr.op, instr.width) {
+        Some(width) => take(pool, alloc, class_of(width)),
+        None => Ok(Place { page: 0, offset: 0 }),
+    }
+}
+
+// Frees the places of the values that instruction t touches last.
+fn free_ended(
+    pool: &mut Pool,
+    places: &[Place],
+    last: &[u32],
+    instr: Instr,
+    t: u32,
+) -> Result<(), Memory>
+    requires pool { IsPool pool.old }
+    requires values { (v : ℕ) → Contains (touched_by instr t) v → (v < length places.now) × (v < length last.now) × IsOn pool.old.pages.items (place_of places.now v) }
+    ensures pool { OnOk result (IsPool pool.new) }
+    ensures wires { OnOk result (pool.new.wires ≡ pool.old.wires) }
+    ensures freed { OnOk result (FreesEnded pool.old.pages.items pool.new.pages.items places.now last.now t (touched_by instr t)) }
+{
+    let touched = touched_values(instr, t);
+    for k in 0..usize::from(touched.count) {
+        let value = touched.values[k] as usize;
+        if last[value] == t {
+            free(pool, places[value])?;
+        }
+    }
+    Ok(())
+}
+
+#[cfg(test)]
+mod tests;

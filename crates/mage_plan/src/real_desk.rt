@@ -1,0 +1,81 @@
+ghost use Rattle.std.specs.Prelude.{◌≡◌, ◌≤◌, length, None, false, IfOk};
+
+use mage_base::{Desk, DeskError, Failed};
+use std::alloc::Global;
+use std::fs;
+use std::io::{self, Read, Write};
+use std::rt::Files;
+
+/// A desk over files and standard output. It tells nothing of what they hold, since no contract can: what is proved
+/// of it is that it counts its faults, and that it hands out no more bytes than asked.
+#[derive(Drop)]
+pub struct RealDesk<'a, R: Files + Print> {
+    rt: &'a R,
+    faults: u64,
+}
+
+impl<'a, R: Files + Print> RealDesk<'a, R> {
+    pub fn new(rt: &'a R) -> Self {
+        RealDesk { rt, faults: 0 }
+    }
+}
+
+// The bytes of the file with this name, of which there are at most `limit`.
+fn read_file<R: Files>(rt: &R, alloc: Global, name: &str, limit: u64) -> Result<Vec<u8>, DeskError>
+    ensures { IfOk result (λ bytes. length bytes.items ≤ limit) }
+{
+    let mut file = fs::open(rt, name).map_err(|_| DeskError::Fault)?;
+    let mut bytes = Vec::new(alloc);
+    let mut piece = [0u8; 4096];
+    for _ in 0..u64::MAX {
+        let count = file.read(&mut piece).map_err(|_| DeskError::Fault)?;
+        if count == 0 {
+            return Ok(bytes);
+        }
+        if count as u64 > limit - bytes.len() as u64 {
+            return Err(DeskError::TooLong);
+        }
+        bytes
+            .extend_from_slice(&piece[..count])
+            .map_err(|_| DeskError::Memory)?;
+    }
+    Err(DeskError::Fault)
+}
+
+fn write_out<R: Print>(rt: &R, bytes: &[u8]) -> io::Result<()> {
+    let mut out = io::writer(rt);
+    out.write_all(bytes)?;
+    out.flush()
+}
+
+impl<R: Files + Print> Desk for RealDesk<'_, R> {
+    ghost files = { λ _. None };
+
+    ghost said = { λ _. None };
+
+    ghost faults = { λ desk. desk.faults };
+
+    ghost steady = { λ _. false };
+
+    ghost room = { λ _. 0 };
+
+    fn fetch(&mut self, alloc: Global, name: &str, limit: u64) -> Result<Vec<u8>, DeskError> {
+        match read_file(self.rt, alloc, name, limit) {
+            Err(DeskError::Fault) => {
+                self.faults = self.faults.saturating_add(1);
+                Err(DeskError::Fault)
+            }
+            answer => answer,
+        }
+    }
+
+    fn say(&mut self, bytes: &[u8]) -> Result<(), Failed> {
+        match write_out(self.rt, bytes) {
+            Ok(()) => Ok(()),
+            Err(_) => {
+                self.faults = self.faults.saturating_add(1);
+                Err(Failed)
+            }
+        }
+    }
+}

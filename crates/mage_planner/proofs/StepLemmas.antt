@@ -1,0 +1,102 @@
+-- A refusal of a step is one of the whole work.
+use Rattle.std.proofs.Common.{◌≡◌, ℕ, List, Option, Some, None, Result, Ok, Err, ok_or, option_map, refl, ap, sym, subst, ◌∙◌}
+use Rattle.mage_syntax.specs.declared.tree.Source.{Source}
+use Rattle.mage_meaning.specs.declared.party.Party.{Party}
+use Rattle.mage_meaning.specs.declared.party.Party.TheVariants as party
+use Rattle.mage_planner.specs.declared.status.Status.{Status}
+use Rattle.mage_planner.specs.declared.status.Status.TheVariants as status
+use Rattle.mage_planner.specs.Words.{Named, named_by}
+use Rattle.mage_planner.specs.Outcome.{File, Absent, Long, Found, ◌>>=◌, source_of, numbers_of, said_of, outcome_of}
+use Rattle.mage_planner.specs.Answer.{Refuses, IsFetchRefusal, IsNotWords}
+
+pub Refuses-map : {T U : Type 0} (s : Status) (a : Result T Status) (b : Result U Status) → (a ≡ Err s → b ≡ Err s) → Refuses s a → Refuses s b
+Refuses-map status.Ok a b f r = r
+Refuses-map status.Desk a b f r = tt
+Refuses-map status.Memory a b f r = tt
+Refuses-map other a b f r = f r
+
+-- a fetch of a source may refuse just what a source that is too long, or absent, gives
+pub source_refused : (s : Status) → IsFetchRefusal status.Language s → Refuses s (source_of Long)
+unfolding source_of
+source_refused status.Desk may = tt
+source_refused status.Memory may = tt
+source_refused status.Language may = refl
+source_refused other may = cc
+
+pub numbers_refused : (whose : Party) (source : Source) (s : Status) → IsFetchRefusal status.InputText s → Refuses s (numbers_of whose source Long)
+unfolding numbers_of
+numbers_refused whose source status.Desk may = tt
+numbers_refused whose source status.Memory may = tt
+numbers_refused whose source status.InputText may = refl
+numbers_refused whose source other may = cc
+
+abbrev then_evaluator : Source → File → List (List ℕ) → Result (List ℕ) Status
+then_evaluator source evaluator garbler = numbers_of party.Evaluator source evaluator >>= (λ numbers. Ok (said_of source (record { garbler = garbler; evaluator = numbers })))
+
+abbrev then_garbler : File → File → Source → Result (List ℕ) Status
+then_garbler garbler evaluator source = numbers_of party.Garbler source garbler >>= then_evaluator source evaluator
+
+abbrev work_of : Found → Result Named Status → Result (List ℕ) Status
+work_of found named = named >>= (λ _. source_of found.source >>= then_garbler found.garbler found.evaluator)
+
+-- where the words name files, the work is that of the files
+outcome_of-named : (found : Found) (words : List (List ℕ)) (named : Named) → named_by words ≡ Some named → outcome_of found words ≡ (source_of found.source >>= then_garbler found.garbler found.evaluator)
+unfolding outcome_of
+outcome_of-named found words named is = ap (λ (o : Option Named). work_of found (ok_or o status.Words)) is
+
+abbrev pub only_source : File → Found
+only_source file = record { source = file; garbler = Absent; evaluator = Absent }
+
+abbrev pub source_garbler : File → File → Found
+source_garbler source garbler = record { source = source; garbler = garbler; evaluator = Absent }
+
+abbrev pub all_three : File → File → File → Found
+all_three source garbler evaluator = record { source = source; garbler = garbler; evaluator = evaluator }
+
+-- the source is refused
+pub work-source : (words : List (List ℕ)) (named : Named) (file : File) (s : Status) → named_by words ≡ Some named → Refuses s (source_of file) → Refuses s (outcome_of (only_source file) words)
+work-source words named file s is refused =
+    Refuses-map s (source_of file) (outcome_of (only_source file) words) (λ e. outcome_of-named (only_source file) words named is ∙ ap (λ (r : Result Source Status). r >>= then_garbler Absent Absent) e) refused
+
+-- the garbler's text is refused
+pub work-garbler : (words : List (List ℕ)) (named : Named) (file garbler : File) (source : Source) (s : Status) → named_by words ≡ Some named → source_of file ≡ Ok source → Refuses s (numbers_of party.Garbler source garbler) → Refuses s (outcome_of (source_garbler file garbler) words)
+work-garbler words named file garbler source s is tree refused =
+    Refuses-map s (numbers_of party.Garbler source garbler) (outcome_of (source_garbler file garbler) words)
+    (λ e. outcome_of-named (source_garbler file garbler) words named is
+    ∙ ap (λ (r : Result Source Status). r >>= then_garbler garbler Absent) tree
+    ∙ ap (λ (r : Result (List (List ℕ)) Status). r >>= then_evaluator source Absent) e)
+    refused
+
+-- the evaluator's text is refused
+pub work-evaluator : (words : List (List ℕ)) (named : Named) (file garbler evaluator : File) (source : Source) (numbers : List (List ℕ)) (s : Status) → named_by words ≡ Some named → source_of file ≡ Ok source → numbers_of party.Garbler source garbler ≡ Ok numbers → Refuses s (numbers_of party.Evaluator source evaluator) → Refuses s (outcome_of (all_three file garbler evaluator) words)
+work-evaluator words named file garbler evaluator source numbers s is tree read refused =
+    Refuses-map s (numbers_of party.Evaluator source evaluator) (outcome_of (all_three file garbler evaluator) words)
+    (λ e. outcome_of-named (all_three file garbler evaluator) words named is
+    ∙ ap (λ (r : Result Source Status). r >>= then_garbler garbler evaluator) tree
+    ∙ ap (λ (r : Result (List (List ℕ)) Status). r >>= then_evaluator source evaluator) read
+    ∙ ap (λ (r : Result (List (List ℕ)) Status). r >>= (λ given. Ok (said_of source (record { garbler = numbers; evaluator = given })))) e)
+    refused
+
+-- all is read
+pub work-all : (words : List (List ℕ)) (named : Named) (file garbler evaluator : File) (source : Source) (numbers given : List (List ℕ)) → named_by words ≡ Some named → source_of file ≡ Ok source → numbers_of party.Garbler source garbler ≡ Ok numbers → numbers_of party.Evaluator source evaluator ≡ Ok given → outcome_of (all_three file garbler evaluator) words ≡ Ok (said_of source (record { garbler = numbers; evaluator = given }))
+work-all words named file garbler evaluator source numbers given is tree read read_too =
+    outcome_of-named (all_three file garbler evaluator) words named is
+    ∙ ap (λ (r : Result Source Status). r >>= then_garbler garbler evaluator) tree
+    ∙ ap (λ (r : Result (List (List ℕ)) Status). r >>= then_evaluator source evaluator) read
+    ∙ ap (λ (r : Result (List (List ℕ)) Status). r >>= (λ given. Ok (said_of source (record { garbler = numbers; evaluator = given })))) read_too
+
+-- the words name no file
+pub work-words : {N : Type 0} (view : N → Named) (found : Found) (words : List (List ℕ)) (o : Option N) (r : Result N Status) (s : Status) → option_map view o ≡ named_by words → r ≡ ok_or o status.Words → r ≡ Err s → Refuses s (outcome_of found words)
+unfolding outcome_of
+work-words view found words None r s named was is =
+    let same : status.Words ≡ s = cc in
+    subst (λ (x : Status). Refuses x (outcome_of found words)) same (ap (λ (o : Option Named). work_of found (ok_or o status.Words)) (sym named))
+work-words view found words (Some n) r s named was is = absurd (cc)
+
+never_words : (s : Status) → IsNotWords s → s ≡ status.Words → ⊥
+never_words status.Words not is = not
+never_words other not is = cc
+
+-- a refusal other than Words, where the words name files
+pub words-kept : {T : Type 0} (r : Result T Status) (s : Status) (o : Option Named) (n : Named) → r ≡ Err s → IsNotWords s → o ≡ Some n → (r ≡ Err status.Words → o ≡ None) × (o ≡ None → r ≡ Err status.Words)
+words-kept r s o n is not named = (λ e. absurd (never_words s not (cc)), λ none. absurd (cc))

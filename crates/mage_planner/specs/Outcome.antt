@@ -1,0 +1,90 @@
+-- What a command comes to, in the order of work.
+use Rattle.std.specs.Prelude.{ℕ, List, length, Option, Some, None, Result, Ok, Err, ok_or, nat_lt, if◌then◌else◌}
+use Rattle.mage_base.specs.Desk.{Files}
+use Rattle.mage_syntax.specs.declared.tree.Source.{Source}
+use Rattle.mage_syntax.specs.First.{first_of}
+use Rattle.mage_meaning.specs.declared.party.Party.{Party}
+use Rattle.mage_meaning.specs.declared.party.Party.TheVariants as party
+use Rattle.mage_meaning.specs.Given.{Given}
+use Rattle.mage_meaning.specs.Value.{value_of, input_widths_of}
+use Rattle.mage_texts.specs.InputText.{inputs_of}
+use Rattle.mage_texts.specs.OutputText.{text_of}
+use Rattle.mage_planner.specs.declared.status.Status.{Status}
+use Rattle.mage_planner.specs.declared.status.Status.TheVariants as status
+use Rattle.mage_planner.specs.Words.{Named, named_by}
+
+-- a file as a fetch with a limit finds it
+pub data File : Type 0 where
+  Absent : File
+  Long : File
+  Held : List ℕ → File
+
+abbrev pub file_of : ℕ → Option (List ℕ) → File
+file_of limit None = Absent
+file_of limit (Some bytes) = if nat_lt limit (length bytes) then Long else Held bytes
+
+abbrev pub file_at : Files → List ℕ → ℕ → File
+file_at files name limit = file_of limit (files name)
+
+-- the files that a command reads, as its fetches find them
+pub record Found : Type 0 where
+  pub source : File
+  pub garbler : File
+  pub evaluator : File
+
+-- a source has at most 1,048,576 bytes, and an input text at most 67,108,864
+abbrev pub found_in : Files → Named → Found
+found_in files named = record {
+  source = file_at files named.source 1048576;
+  garbler = file_at files named.garbler 67108864;
+  evaluator = file_at files named.evaluator 67108864;
+}
+
+-- where the words name no file, no file is read
+abbrev pub found_for : Files → Option Named → Found
+found_for files None = record { source = Absent; garbler = Absent; evaluator = Absent }
+found_for files (Some named) = found_in files named
+
+infixl 10 ◌>>=◌
+abbrev pub ◌>>=◌ : {A B : Type 0} → Result A Status → (A → Result B Status) → Result B Status
+(Ok x) >>= f = f x
+(Err e) >>= f = Err e
+
+-- the bytes of a file, or what its length or its absence is answered with
+abbrev pub bytes_or : Status → File → Result (List ℕ) Status
+bytes_or too_long Absent = Err status.Desk
+bytes_or too_long Long = Err too_long
+bytes_or too_long (Held bytes) = Ok bytes
+
+-- the tree of a source's file
+unfoldable pub source_of : File → Result Source Status
+source_of file = do
+  text ← bytes_or status.Language file
+  ok_or (first_of text) status.Language
+
+abbrev pub inputs_or_fault : Result (List (List ℕ)) ℕ → Result (List (List ℕ)) Status
+inputs_or_fault (Ok numbers) = Ok numbers
+inputs_or_fault (Err line) = Err status.InputText
+
+-- the numbers of a party's input text
+unfoldable pub numbers_of : Party → Source → File → Result (List (List ℕ)) Status
+numbers_of whose source file = do
+  text ← bytes_or status.InputText file
+  inputs_or_fault (inputs_of text (input_widths_of whose source))
+
+-- what is said of the outputs
+abbrev pub said_of : Source → Given → List ℕ
+said_of source given = text_of (value_of source given)
+
+-- the files of a command, where they are told
+abbrev pub found_by : Files → List (List ℕ) → Found
+found_by files words = found_for files (named_by words)
+
+-- what a command says, or the first status in the order of work that refuses it; an absent file stops it too
+unfoldable pub outcome_of : Found → List (List ℕ) → Result (List ℕ) Status
+outcome_of found words = do
+  named ← ok_or (named_by words) status.Words
+  source ← source_of found.source
+  garbler ← numbers_of party.Garbler source found.garbler
+  evaluator ← numbers_of party.Evaluator source found.evaluator
+  Ok (said_of source (record { garbler = garbler; evaluator = evaluator }))

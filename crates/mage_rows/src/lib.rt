@@ -1,0 +1,6 @@
+//! Tests that cross crates: what the top calls answer and say over a desk in memory. Each expected value is a worked
+//! example or follows from the rules in docs/, and none comes from the program.
+#![tactic(auto)]
+
+#[cfg(test)]
+mod solo;

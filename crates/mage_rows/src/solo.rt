@@ -1,0 +1,361 @@
+// `solo` in plain, on one worker.
+use mage_base::{DeskFails, Items, MemDesk, Memory};
+use mage_planner::{Status, planner};
+use std::alloc::{AllocError, Global};
+use std::process::Abort;
+use std::test::Fail;
+
+const WORDS: [&str; 7] = [
+    "solo",
+    "--source",
+    "s",
+    "--garbler",
+    "g",
+    "--evaluator",
+    "e",
+];
+
+const SUM: &[u8] = b"input garbler a: u8; input evaluator b: u8; output a + b;";
+
+// A source, the garbler's and the evaluator's text, and the status and what is said.
+#[derive(Drop)]
+struct Case {
+    source: &'static [u8],
+    garbler: &'static [u8],
+    evaluator: &'static [u8],
+    status: Status,
+    said: &'static [u8],
+}
+
+fn owned(alloc: Global, words: &[&str]) -> Result<Vec<String>, AllocError> {
+    let mut all = Vec::new(alloc);
+    for word in words {
+        all.push(String::from_str(alloc, word)?)?;
+    }
+    Ok(all)
+}
+
+fn desk_with(
+    alloc: Global,
+    fails: &DeskFails,
+    room: u64,
+    source: &[u8],
+    garbler: &[u8],
+    evaluator: &[u8],
+) -> Result<MemDesk, Memory> {
+    let mut desk = MemDesk::make(alloc, room, fails)?;
+    desk.add("s", source)?;
+    desk.add("g", garbler)?;
+    desk.add("e", evaluator)?;
+    Ok(desk)
+}
+
+fn check(rt: &impl Abort, alloc: Global, cases: &[Case]) -> Result<(), Fail> {
+    let words = owned(alloc, &WORDS)?;
+    for (index, case) in cases.iter().enumerate() {
+        let fails = DeskFails::none(alloc);
+        let mut desk = desk_with(
+            alloc,
+            &fails,
+            1000,
+            case.source,
+            case.garbler,
+            case.evaluator,
+        )?;
+        let status = planner(alloc, &words, &mut desk);
+        assert_eq!(rt; status, case.status, "case {index}");
+        assert_eq!(rt; desk.said(), case.said, "case {index}");
+    }
+    Ok(())
+}
+
+fn said(
+    source: &'static [u8],
+    garbler: &'static [u8],
+    evaluator: &'static [u8],
+    said: &'static [u8],
+) -> Case {
+    Case {
+        source,
+        garbler,
+        evaluator,
+        status: Status::Ok,
+        said,
+    }
+}
+
+fn refused(
+    source: &'static [u8],
+    garbler: &'static [u8],
+    evaluator: &'static [u8],
+    status: Status,
+) -> Case {
+    Case {
+        source,
+        garbler,
+        evaluator,
+        status,
+        said: b"",
+    }
+}
+
+#[test]
+fn outputs_are_said(rt: HostRuntime) -> Result<(), Fail> {
+    check(
+        &rt,
+        rt.alloc(),
+        &[
+            said(SUM, b"200", b"100", b"44\n"),
+            said(SUM, b"200\n", b"100\n", b"44\n"),
+            said(SUM, b"00000000000000000200", b"1", b"201\n"),
+            said(b"", b"", b"", b""),
+            said(b"// nothing", b"", b"", b""),
+            said(b"input garbler a: u1; output a + a + a;", b"1", b"", b"1\n"),
+            said(
+                b"input garbler a: u64; let b = a + a; output b; output a;",
+                b"18446744073709551615",
+                b"",
+                b"18446744073709551614\n18446744073709551615\n",
+            ),
+            said(
+                b"input garbler a: u8; input garbler b: u8; output b; output a; // both",
+                b"1\n2",
+                b"",
+                b"2\n1\n",
+            ),
+        ],
+    )
+}
+
+#[test]
+fn faulty_lines_are_refused(rt: HostRuntime) -> Result<(), Fail> {
+    let wide = b"input garbler a: u64; output a;";
+    let bit = b"input garbler a: u1; output a;";
+    let two = b"input garbler a: u8; input garbler b: u8; output a + b;";
+    check(
+        &rt,
+        rt.alloc(),
+        &[
+            refused(SUM, b"300", b"100", Status::InputText),
+            refused(SUM, b"", b"100", Status::InputText),
+            refused(SUM, b"1\n2", b"100", Status::InputText),
+            refused(SUM, b"1\n2\n", b"100", Status::InputText),
+            refused(SUM, b"\n", b"100", Status::InputText),
+            refused(SUM, b"200", b"256", Status::InputText),
+            refused(SUM, b"200", b"", Status::InputText),
+            refused(SUM, b"200\r\n", b"100", Status::InputText),
+            refused(SUM, b"+200", b"100", Status::InputText),
+            refused(SUM, b"000000000000000000200", b"100", Status::InputText),
+            refused(two, b"1\n\n2", b"", Status::InputText),
+            refused(wide, b"18446744073709551616", b"", Status::InputText),
+            refused(bit, b"2", b"", Status::InputText),
+            said(
+                wide,
+                b"18446744073709551615",
+                b"",
+                b"18446744073709551615\n",
+            ),
+            said(bit, b"1", b"", b"1\n"),
+        ],
+    )
+}
+
+#[test]
+fn texts_outside_the_language_are_refused(rt: HostRuntime) -> Result<(), Fail> {
+    check(
+        &rt,
+        rt.alloc(),
+        &[
+            refused(b"let x = y;", b"", b"", Status::Language),
+            refused(b"input garbler let: u8;", b"1", b"", Status::Language),
+            refused(b"input garbler u8: u8;", b"1", b"", Status::Language),
+            refused(
+                b"input garbler a: u8; input garbler a: u8;",
+                b"1\n1",
+                b"",
+                Status::Language,
+            ),
+            refused(
+                b"input garbler a: u8; let a = a;",
+                b"1",
+                b"",
+                Status::Language,
+            ),
+            refused(
+                b"input garbler a: u8; input garbler b: u9; output a + b;",
+                b"1\n1",
+                b"",
+                Status::Language,
+            ),
+            refused(b"input garbler a: u0;", b"1", b"", Status::Language),
+            refused(b"input garbler a: u65;", b"1", b"", Status::Language),
+            refused(b"input garbler a: u064;", b"1", b"", Status::Language),
+            refused(b"input garbler a: u08;", b"1", b"", Status::Language),
+            refused(b"input other a: u8;", b"1", b"", Status::Language),
+            refused(b"input garbler a: u8", b"1", b"", Status::Language),
+            refused(
+                b"input garbler a: u8; output a +;",
+                b"1",
+                b"",
+                Status::Language,
+            ),
+            refused(
+                b"input garbler a: u8; output a a;",
+                b"1",
+                b"",
+                Status::Language,
+            ),
+            refused(
+                b"input garbler a: u8; output a - a;",
+                b"1",
+                b"",
+                Status::Language,
+            ),
+            refused(
+                b"input garbler a: u8; output (a);",
+                b"1",
+                b"",
+                Status::Language,
+            ),
+            refused(b"#", b"", b"", Status::Language),
+            refused(b"\xff", b"", b"", Status::Language),
+            refused(b"output 1;", b"", b"", Status::Language),
+            // The language is tested before the inputs.
+            refused(b"let x = y;", b"no number", b"", Status::Language),
+            said(
+                b"input garbler a: u64; output a; // \xff",
+                b"1",
+                b"",
+                b"1\n",
+            ),
+        ],
+    )
+}
+
+#[test]
+fn the_longest_source_is_read(rt: HostRuntime) -> Result<(), Fail> {
+    let alloc = rt.alloc();
+    let words = owned(alloc, &WORDS)?;
+    let fails = DeskFails::none(alloc);
+    for (len, status) in [(1_048_576, Status::Ok), (1_048_577, Status::Language)] {
+        let source = vec![in alloc; b' '; len]?;
+        let mut desk = desk_with(alloc, &fails, 0, &source, b"", b"")?;
+        assert_eq!(rt; planner(alloc, &words, &mut desk), status, "{len} bytes");
+    }
+    Ok(())
+}
+
+#[test]
+fn other_words_are_refused(rt: HostRuntime) -> Result<(), Fail> {
+    let alloc = rt.alloc();
+    let fails = DeskFails::none(alloc);
+    let mut desk = desk_with(alloc, &fails, 1000, SUM, b"200", b"100")?;
+    let none: [&str; 0] = [];
+    let lists: [&[&str]; 9] = [
+        &none,
+        &["solo"],
+        &[
+            "plan",
+            "--source",
+            "s",
+            "--garbler",
+            "g",
+            "--evaluator",
+            "e",
+        ],
+        &["solo", "--source", "s", "--garbler", "g", "--evaluator"],
+        &[
+            "solo",
+            "--source",
+            "s",
+            "--garbler",
+            "g",
+            "--evaluator",
+            "e",
+            "e",
+        ],
+        &[
+            "solo",
+            "--garbler",
+            "g",
+            "--source",
+            "s",
+            "--evaluator",
+            "e",
+        ],
+        &["solo", "--source", "", "--garbler", "g", "--evaluator", "e"],
+        &[
+            "solo",
+            "--source",
+            "-s",
+            "--garbler",
+            "g",
+            "--evaluator",
+            "e",
+        ],
+        &["--help"],
+    ];
+    for list in lists {
+        let words = owned(alloc, list)?;
+        assert_eq!(rt; planner(alloc, &words, &mut desk), Status::Words);
+    }
+    assert_eq!(rt; desk.said(), b"".as_slice());
+    Ok(())
+}
+
+#[test]
+fn each_call_of_the_desk_may_fail(rt: HostRuntime) -> Result<(), Fail> {
+    let alloc = rt.alloc();
+    let words = owned(alloc, &WORDS)?;
+    // Three fetches and one saying; a fifth call isn't made.
+    for (number, status) in [
+        (0, Status::Desk),
+        (1, Status::Desk),
+        (2, Status::Desk),
+        (3, Status::Desk),
+        (4, Status::Ok),
+    ] {
+        let mut fails = DeskFails::none(alloc);
+        fails.desk = Items::from_slice(alloc, &[number])?;
+        let mut desk = desk_with(alloc, &fails, 1000, SUM, b"200", b"100")?;
+        assert_eq!(rt; planner(alloc, &words, &mut desk), status, "call {number}");
+    }
+    Ok(())
+}
+
+#[test]
+fn want_of_files_and_room_is_a_fault_of_the_desk(rt: HostRuntime) -> Result<(), Fail> {
+    let alloc = rt.alloc();
+    let fails = DeskFails::none(alloc);
+    for missing in ["s", "g", "e"] {
+        let mut list = WORDS;
+        for word in &mut list {
+            if *word == missing {
+                *word = "missing";
+            }
+        }
+        let words = owned(alloc, &list)?;
+        let mut desk = desk_with(alloc, &fails, 1000, SUM, b"200", b"100")?;
+        assert_eq!(rt;
+            planner(alloc, &words, &mut desk),
+            Status::Desk,
+            "without {missing}"
+        );
+        assert_eq!(rt; desk.said(), b"".as_slice());
+    }
+    let words = owned(alloc, &WORDS)?;
+    let mut desk = desk_with(alloc, &fails, 2, SUM, b"200", b"100")?;
+    assert_eq!(rt; planner(alloc, &words, &mut desk), Status::Desk);
+    assert_eq!(rt; desk.said(), b"44".as_slice());
+    Ok(())
+}
+
+#[test]
+fn codes(rt: HostRuntime) {
+    assert_eq!(rt; Status::Ok.code(), 0);
+    assert_eq!(rt; Status::Words.code(), 2);
+    assert_eq!(rt; Status::Language.code(), 3);
+    assert_eq!(rt; Status::InputText.code(), 6);
+    assert_eq!(rt; Status::Desk.code(), 7);
+    assert_eq!(rt; Status::Memory.code(), 9);
+}
