@@ -8,10 +8,12 @@ use mage_instr::{NEVER, Step};
 use std::alloc::Global;
 use std::collections::HashMap;
 
-/// For each step, and each of its pages, the least later step that has the page, or `NEVER` where there is none.
-/// Entries past the number of pages are `NEVER`.
+/// Four numbers for each step of a trace, in order: for each of its pages, in the step's order, the least later step
+/// that has the page, or `NEVER` where there is none. Behind the step's pages stands `NEVER`. Steps are numbered from
+/// 0, and a step is not its own next use.
 ///
-/// One pass from the last step to the first, with a map from each page to the step that has it next.
+/// The one error is want of memory, and no clause says when it comes. One pass goes from the last step to the first,
+/// with a map from each page to the step that has it next.
 pub fn next_uses(alloc: Global, trace: &[Step]) -> Result<Vec<[u32; 4]>, Memory>
     requires { IsTrace trace.now }
     ensures { IfOk result (λ uses. AreNextUses trace.now uses.items) }

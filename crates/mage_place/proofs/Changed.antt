@@ -7,8 +7,8 @@ use Rattle.std.proofs.lemmas.Bool.{cases_eq, eq-eqb, ne_eqb, and_left, and_right
 use Rattle.std.specs.BTreeMap.{is_at}
 use Rattle.std.proofs.lemmas.Grind.{common_steps}
 use Rattle.mage_place.specs.declared.pool.Page.{Page}
-use Rattle.mage_place.specs.Pages.{IsPage, taken_on, is_used, has_room}
-use Rattle.mage_place.specs.Pools.{taken, class_at, is_open_page, is_open, is_listed, ArePages}
+use Rattle.mage_place.specs.Pages.{IsPage, is_taken_on, is_used, has_room}
+use Rattle.mage_place.specs.Pools.{is_taken, class_at, is_open_page, is_open, is_listed, ArePages}
 use Rattle.mage_place.proofs.At.{slice_get-set_same, slice_get-set_other, slice_get-push_same, slice_get-push_other}
 
 -- page r of the new pages is p, and each other page is as in the old ones
@@ -38,11 +38,11 @@ module _ (old new : List Page) (r : ℕ) (p : Page) (changed : Changed old new r
   pub class_at-other : (q : ℕ) → q ≢ r → class_at new q ≡ class_at old q
   class_at-other q ne = ap (λ o. option_map_or (λ (x : Page). x.class) o 0) (changed.there q ne)
 
-  pub taken-changed : (j : ℕ) → taken new r j ≡ taken_on p j
-  taken-changed j = ap (λ o. option_map_or (λ x. taken_on x j) o false) changed.here
+  pub is_taken-changed : (j : ℕ) → is_taken new r j ≡ is_taken_on p j
+  is_taken-changed j = ap (λ o. option_map_or (λ x. is_taken_on x j) o false) changed.here
 
-  pub taken-other : (q j : ℕ) → q ≢ r → taken new q j ≡ taken old q j
-  taken-other q j ne = ap (λ o. option_map_or (λ x. taken_on x j) o false) (changed.there q ne)
+  pub is_taken-other : (q j : ℕ) → q ≢ r → is_taken new q j ≡ is_taken old q j
+  is_taken-other q j ne = ap (λ o. option_map_or (λ x. is_taken_on x j) o false) (changed.there q ne)
 
   pub is_open-changed : (wires c : ℕ) → is_open wires new c r ≡ is_open_page wires c p
   is_open-changed wires c = ap (λ o. option_map_or (is_open_page wires c) o false) changed.here

@@ -7,7 +7,7 @@ use Rattle.std.proofs.lemmas.List.Folds.{list_any-append}
 use Rattle.mage_instr.specs.declared.instr.Place.{Place}
 use Rattle.mage_place.specs.declared.pool.Page.{Page}
 use Rattle.mage_place.specs.Places.{place_of}
-use Rattle.mage_place.specs.Pools.{taken, class_at, is_place, IsOn, Frees, ends_at, FreesEnded}
+use Rattle.mage_place.specs.Pools.{is_taken, class_at, is_place, IsOn, Frees, ends_at, FreesEnded}
 
 pub IsOn-moved : (old new : List Page) (place : Place) → length new ≡ length old → ((q : ℕ) → class_at new q ≡ class_at old q) → IsOn old place → IsOn new place
 IsOn-moved old new place count classes on = (rw count on.0, on.1, rw (classes place.page) on.2)
@@ -37,8 +37,8 @@ module _ (old mid : List Page) (places : List Place) (last : List ℕ) (t : ℕ)
         let place = place_of places (get_or xs k 0) in
         let same : is_place mid place q j ≡ is_place old place q j = ap (λ c. eqb place.page q && eqb place.offset (j * c)) (so_far.classes q) in
         let any = any_more (ends_at old places last t q j) xs k h in
-        let now : taken new q j ≡ ((taken old q j && not (list_any (ends_at old places last t q j) (take k xs))) && not (is_place old place q j)) = freed.taken_places q j ∙ rw (so_far.taken_places q j, same) refl in
-        now ∙ both_gone (taken old q j) (list_any (ends_at old places last t q j) (take k xs)) (is_place old place q j)
+        let now : is_taken new q j ≡ ((is_taken old q j && not (list_any (ends_at old places last t q j) (take k xs))) && not (is_place old place q j)) = freed.taken_places q j ∙ rw (so_far.taken_places q j, same) refl in
+        now ∙ both_gone (is_taken old q j) (list_any (ends_at old places last t q j) (take k xs)) (is_place old place q j)
         ∙ rw (any, eq-eqb (slice_index last (get_or xs k 0)) t ends) refl;
   }
 
@@ -49,6 +49,6 @@ module _ (old mid : List Page) (places : List Place) (last : List ℕ) (t : ℕ)
     taken_places = λ q j.
         let place = place_of places (get_or xs k 0) in
         let any = any_more (ends_at old places last t q j) xs k h in
-        so_far.taken_places q j ∙ none_gone (taken old q j) (list_any (ends_at old places last t q j) (take k xs)) (is_place old place q j)
+        so_far.taken_places q j ∙ none_gone (is_taken old q j) (list_any (ends_at old places last t q j) (take k xs)) (is_place old place q j)
         ∙ rw (any, ne_eqb (slice_index last (get_or xs k 0)) t stays) refl;
   }

@@ -11,9 +11,9 @@ use Rattle.std.proofs.lemmas.Option.{slice_get_past}
 use Rattle.std.proofs.Math.Nat.{div-mul-le_self, mul-div_cancel, mul-le-mul_right}
 use Rattle.mage_instr.specs.declared.instr.Place.{Place}
 use Rattle.mage_place.specs.declared.pool.Page.{Page}
-use Rattle.mage_place.specs.Pages.{IsPage, taken_on, is_used, has_room}
-use Rattle.mage_place.specs.Pools.{taken, class_at, is_open_page, is_open, TakesPlace, Frees}
-use Rattle.mage_place.proofs.Changed.{Changed, class_at-changed, class_at-other, taken-changed, taken-other}
+use Rattle.mage_place.specs.Pages.{IsPage, is_taken_on, is_used, has_room}
+use Rattle.mage_place.specs.Pools.{is_taken, class_at, is_open_page, is_open, TakesPlace, Frees}
+use Rattle.mage_place.proofs.Changed.{Changed, class_at-changed, class_at-other, is_taken-changed, is_taken-other}
 
 -- a page that was just made, with its place 0 taken
 pub IsPage-fresh : (wires class : ℕ) (s : BTreeSet ℕ) → 1 ≤ class → class ≤ 64 → 64 ≤ wires → IsEmpty s → IsOrdered nat_cmp s → IsPage wires (record { class = class; next = 1; freed = s })
@@ -25,8 +25,8 @@ IsPage-fresh wires class s above below wide empty ordered = record {
   freed = λ k h. absurd (false≢true (sym (ap (list_any (is_at (nat_cmp k))) empty) ∙ h));
 }
 
-pub taken_on-fresh : (class : ℕ) (s : BTreeSet ℕ) (j : ℕ) → IsEmpty s → taken_on (record { class = class; next = 1; freed = s }) j ≡ eqb j 0
-taken_on-fresh class s j empty = ap (λ ks. ltb j 1 && not (list_any (is_at (nat_cmp j)) ks)) empty ∙ ⊎_elim at_0 past (cases_eq j 0) where
+pub is_taken_on-fresh : (class : ℕ) (s : BTreeSet ℕ) (j : ℕ) → IsEmpty s → is_taken_on (record { class = class; next = 1; freed = s }) j ≡ eqb j 0
+is_taken_on-fresh class s j empty = ap (λ ks. ltb j 1 && not (list_any (is_at (nat_cmp j)) ks)) empty ∙ ⊎_elim at_0 past (cases_eq j 0) where
   at_0 : j ≡ 0 → (ltb j 1 && true) ≡ eqb j 0
   at_0 e = rw e refl
 
@@ -34,8 +34,8 @@ taken_on-fresh class s j empty = ap (λ ks. ltb j 1 && not (list_any (is_at (nat
   past ne = and_left (ltb j 1) true (le-ltb j 1 (omega arith)) ∙ sym (ne_eqb j 0 ne)
 
 -- past the last page no place is taken, and no page is open
-pub taken-past : (pages : List Page) (q j : ℕ) → length pages ≤ q → taken pages q j ≡ false
-taken-past pages q j h = ap (λ o. option_map_or (λ x. taken_on x j) o false) (slice_get_past pages q h)
+pub is_taken-past : (pages : List Page) (q j : ℕ) → length pages ≤ q → is_taken pages q j ≡ false
+is_taken-past pages q j h = ap (λ o. option_map_or (λ x. is_taken_on x j) o false) (slice_get_past pages q h)
 
 pub is_open-past : (wires : ℕ) (pages : List Page) (c q : ℕ) → length pages ≤ q → is_open wires pages c q ≡ false
 is_open-past wires pages c q h = ap (λ o. option_map_or (is_open_page wires c) o false) (slice_get_past pages q h)
@@ -44,8 +44,8 @@ pub is_open-within : (wires : ℕ) (pages : List Page) (c q : ℕ) → is_open w
 is_open-within wires pages c q h = ⊎_elim (λ l. l) (λ l. absurd (false≢true (sym (is_open-past wires pages c q l) ∙ h))) (cases_lt q (length pages))
 
 -- what is known of a page at its index
-pub taken-at : (pages : List Page) (q j : ℕ) (p : Page) → slice_get pages q ≡ Some p → taken pages q j ≡ taken_on p j
-taken-at pages q j p is = ap (λ o. option_map_or (λ x. taken_on x j) o false) is
+pub is_taken-at : (pages : List Page) (q j : ℕ) (p : Page) → slice_get pages q ≡ Some p → is_taken pages q j ≡ is_taken_on p j
+is_taken-at pages q j p is = ap (λ o. option_map_or (λ x. is_taken_on x j) o false) is
 
 pub class_at-at : (pages : List Page) (q : ℕ) (p : Page) → slice_get pages q ≡ Some p → class_at pages q ≡ p.class
 class_at-at pages q p is = ap (λ o. option_map_or (λ (x : Page). x.class) o 0) is
@@ -80,27 +80,27 @@ and_all true = refl
 and_all false = refl
 
 module _ (old new : List Page) (r : ℕ) (p : Page) (changed : Changed old new r p) where
-  pub TakesPlace-changed : (wires c k : ℕ) → k < wires / c → p.class ≡ c → (r < length old → class_at old r ≡ c) → ((j : ℕ) → taken_on p j ≡ (taken old r j || eqb j k)) → TakesPlace old new wires c r k
+  pub TakesPlace-changed : (wires c k : ℕ) → k < wires / c → p.class ≡ c → (r < length old → class_at old r ≡ c) → ((j : ℕ) → is_taken_on p j ≡ (is_taken old r j || eqb j k)) → TakesPlace old new wires c r k
   TakesPlace-changed wires c k within class was takes = record {
     within = within;
     class_of_page = class_at-changed old new r p changed ∙ class;
     classes = λ q h. ⊎_elim (λ e. rw e (class_at-changed old new r p changed ∙ class ∙ sym (was (subst (λ x. x < length old) e h)))) (class_at-other old new r p changed q) (cases_eq q r);
     taken_places = λ q j. ⊎_elim (here q j) (there q j) (cases_eq q r);
   } where
-    here : (q j : ℕ) → q ≡ r → taken new q j ≡ (taken old q j || (eqb q r && eqb j k))
-    here q j e = rw (eq-eqb q r e, e) (taken-changed old new r p changed j ∙ takes j)
+    here : (q j : ℕ) → q ≡ r → is_taken new q j ≡ (is_taken old q j || (eqb q r && eqb j k))
+    here q j e = rw (eq-eqb q r e, e) (is_taken-changed old new r p changed j ∙ takes j)
 
-    there : (q j : ℕ) → q ≢ r → taken new q j ≡ (taken old q j || (eqb q r && eqb j k))
-    there q j ne = rw (ne_eqb q r ne) (taken-other old new r p changed q j ne ∙ or_none (taken old q j))
+    there : (q j : ℕ) → q ≢ r → is_taken new q j ≡ (is_taken old q j || (eqb q r && eqb j k))
+    there q j ne = rw (ne_eqb q r ne) (is_taken-other old new r p changed q j ne ∙ or_none (is_taken old q j))
 
-  pub Frees-changed : (place : Place) (k : ℕ) → place.page ≡ r → length new ≡ length old → p.class ≡ class_at old r → 0 < p.class → place.offset ≡ k * p.class → ((j : ℕ) → taken_on p j ≡ (taken old r j && not (eqb j k))) → Frees old new place
+  pub Frees-changed : (place : Place) (k : ℕ) → place.page ≡ r → length new ≡ length old → p.class ≡ class_at old r → 0 < p.class → place.offset ≡ k * p.class → ((j : ℕ) → is_taken_on p j ≡ (is_taken old r j && not (eqb j k))) → Frees old new place
   Frees-changed place k at_r count class pos offset frees = record {
     count = count;
     classes = λ q. ⊎_elim (λ e. rw e (class_at-changed old new r p changed ∙ class)) (class_at-other old new r p changed q) (cases_eq q r);
     taken_places = λ q j. rw at_r (⊎_elim (here q j) (there q j) (cases_eq q r));
   } where
-    here : (q j : ℕ) → q ≡ r → taken new q j ≡ (taken old q j && not (eqb r q && eqb place.offset (j * class_at old q)))
-    here q j e = rw (eq-eqb r q (sym e), e, ← class) (taken-changed old new r p changed j ∙ frees j ∙ ap (λ b. taken old r j && not b) (same_place p.class j k place.offset pos offset))
+    here : (q j : ℕ) → q ≡ r → is_taken new q j ≡ (is_taken old q j && not (eqb r q && eqb place.offset (j * class_at old q)))
+    here q j e = rw (eq-eqb r q (sym e), e, ← class) (is_taken-changed old new r p changed j ∙ frees j ∙ ap (λ b. is_taken old r j && not b) (same_place p.class j k place.offset pos offset))
 
-    there : (q j : ℕ) → q ≢ r → taken new q j ≡ (taken old q j && not (eqb r q && eqb place.offset (j * class_at old q)))
-    there q j ne = rw (ne_eqb r q (λ e. ne (sym e))) (taken-other old new r p changed q j ne ∙ and_all (taken old q j))
+    there : (q j : ℕ) → q ≢ r → is_taken new q j ≡ (is_taken old q j && not (eqb r q && eqb place.offset (j * class_at old q)))
+    there q j ne = rw (ne_eqb r q (λ e. ne (sym e))) (is_taken-other old new r p changed q j ne ∙ and_all (is_taken old q j))

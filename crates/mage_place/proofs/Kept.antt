@@ -6,12 +6,12 @@ use Rattle.std.proofs.Math.Nat.{eq_of_mul-eq-mul_right}
 use Rattle.mage_instr.specs.declared.instr.Place.{Place}
 use Rattle.mage_place.specs.declared.pool.Page.{Page}
 use Rattle.mage_place.specs.Places.{place_of}
-use Rattle.mage_place.specs.Pools.{taken, class_at, is_place, ends_at, TakesPlace, FreesEnded}
+use Rattle.mage_place.specs.Pools.{is_taken, class_at, is_place, ends_at, TakesPlace, FreesEnded}
 
 -- Each place that is taken has its value among those for which P holds, each such value has its place, and no two have one.
 pub record Held (places : List Place) (pages : List Page) (P : ℕ → Type 0) : Type 0 where
-  pub back : (q j : ℕ) → taken pages q j ≡ true → (v : ℕ) × P v × ((place_of places v).page ≡ q) × ((place_of places v).offset ≡ j * class_at pages q)
-  pub forth : (v : ℕ) → P v → (j : ℕ) × ((place_of places v).offset ≡ j * class_at pages (place_of places v).page) × (taken pages (place_of places v).page j ≡ true)
+  pub back : (q j : ℕ) → is_taken pages q j ≡ true → (v : ℕ) × P v × ((place_of places v).page ≡ q) × ((place_of places v).offset ≡ j * class_at pages q)
+  pub forth : (v : ℕ) → P v → (j : ℕ) × ((place_of places v).offset ≡ j * class_at pages (place_of places v).page) × (is_taken pages (place_of places v).page j ≡ true)
   pub apart : (v w : ℕ) → P v → P w → (place_of places v).page ≡ (place_of places w).page → (place_of places v).offset ≡ (place_of places w).offset → v ≡ w
 
 pub Held-same : (places places' : List Place) (pages : List Page) (P : ℕ → Type 0) → ((v : ℕ) → P v → place_of places' v ≡ place_of places v) → Held places pages P → Held places' pages P
@@ -30,9 +30,9 @@ Held-iff places pages P Q to from held = record {
 
 -- a value more, which gets a place that was free
 module _ (places : List Place) (pages new : List Page) (P : ℕ → Type 0) (n : ℕ) (place : Place) (at_n : place_of places n ≡ place) (held : Held places pages P) (on : (v : ℕ) → P v → (place_of places v).page < length pages)
-    (wires c k : ℕ) (pos : 0 < c) (takes : TakesPlace pages new wires c place.page k) (offset : place.offset ≡ k * c) (fresh : taken pages place.page k ≡ false) where
-  taken_new : taken new place.page k ≡ true
-  taken_new = takes.taken_places place.page k ∙ or_right (taken pages place.page k) (eqb place.page place.page && eqb k k) (and_from (eqb place.page place.page) (eqb k k) (eq-eqb place.page place.page refl) (eq-eqb k k refl))
+    (wires c k : ℕ) (pos : 0 < c) (takes : TakesPlace pages new wires c place.page k) (offset : place.offset ≡ k * c) (fresh : is_taken pages place.page k ≡ false) where
+  taken_new : is_taken new place.page k ≡ true
+  taken_new = takes.taken_places place.page k ∙ or_right (is_taken pages place.page k) (eqb place.page place.page && eqb k k) (and_from (eqb place.page place.page) (eqb k k) (eq-eqb place.page place.page refl) (eq-eqb k k refl))
 
   -- no value held the place before
   other : (v : ℕ) → P v → (place_of places v).page ≡ place.page → (place_of places v).offset ≡ place.offset → ⊥
@@ -41,12 +41,12 @@ module _ (places : List Place) (pages new : List Page) (P : ℕ → Type 0) (n :
       let class : class_at pages place.page ≡ c = sym (takes.classes place.page (subst (λ x. x < length pages) page (on v p))) ∙ takes.class_of_page in
       let there : (place_of places v).offset ≡ w.0 * c = w.1 ∙ ap (λ x. w.0 * class_at pages x) page ∙ ap (λ x. w.0 * x) class in
       let same : w.0 ≡ k = eq_of_mul-eq-mul_right c pos w.0 k (sym there ∙ at ∙ offset) in
-      let full : taken pages place.page k ≡ true = rw (← page, ← same) w.2 in
+      let full : is_taken pages place.page k ≡ true = rw (← page, ← same) w.2 in
       false≢true (sym fresh ∙ full)
 
-  held_back : (q j : ℕ) → taken new q j ≡ true → (v : ℕ) × (P v ⊎ (v ≡ n)) × ((place_of places v).page ≡ q) × ((place_of places v).offset ≡ j * class_at new q)
-  held_back q j h = ⊎_elim old now (or_cases (taken pages q j) (eqb q place.page && eqb j k) (sym (takes.taken_places q j) ∙ h)) where
-    old : taken pages q j ≡ true → (v : ℕ) × (P v ⊎ (v ≡ n)) × ((place_of places v).page ≡ q) × ((place_of places v).offset ≡ j * class_at new q)
+  held_back : (q j : ℕ) → is_taken new q j ≡ true → (v : ℕ) × (P v ⊎ (v ≡ n)) × ((place_of places v).page ≡ q) × ((place_of places v).offset ≡ j * class_at new q)
+  held_back q j h = ⊎_elim old now (or_cases (is_taken pages q j) (eqb q place.page && eqb j k) (sym (takes.taken_places q j) ∙ h)) where
+    old : is_taken pages q j ≡ true → (v : ℕ) × (P v ⊎ (v ≡ n)) × ((place_of places v).page ≡ q) × ((place_of places v).offset ≡ j * class_at new q)
     old was =
         let w = held.back q j was in
         let within : q < length pages = subst (λ x. x < length pages) w.2 (on w.0 w.1) in
@@ -59,14 +59,14 @@ module _ (places : List Place) (pages new : List Page) (P : ℕ → Type 0) (n :
         let class : class_at new q ≡ c = rw page takes.class_of_page in
         (n, inr refl, rw at_n (sym page), rw (at_n, class, number) offset)
 
-  held_forth : (v : ℕ) → (P v ⊎ (v ≡ n)) → (j : ℕ) × ((place_of places v).offset ≡ j * class_at new (place_of places v).page) × (taken new (place_of places v).page j ≡ true)
+  held_forth : (v : ℕ) → (P v ⊎ (v ≡ n)) → (j : ℕ) × ((place_of places v).offset ≡ j * class_at new (place_of places v).page) × (is_taken new (place_of places v).page j ≡ true)
   held_forth v h = ⊎_elim old now h where
-    old : P v → (j : ℕ) × ((place_of places v).offset ≡ j * class_at new (place_of places v).page) × (taken new (place_of places v).page j ≡ true)
+    old : P v → (j : ℕ) × ((place_of places v).offset ≡ j * class_at new (place_of places v).page) × (is_taken new (place_of places v).page j ≡ true)
     old p =
         let w = held.forth v p in let q = (place_of places v).page in
-        (w.0, w.1 ∙ ap (λ x. w.0 * x) (sym (takes.classes q (on v p))), takes.taken_places q w.0 ∙ or_left (taken pages q w.0) (eqb q place.page && eqb w.0 k) w.2)
+        (w.0, w.1 ∙ ap (λ x. w.0 * x) (sym (takes.classes q (on v p))), takes.taken_places q w.0 ∙ or_left (is_taken pages q w.0) (eqb q place.page && eqb w.0 k) w.2)
 
-    now : v ≡ n → (j : ℕ) × ((place_of places v).offset ≡ j * class_at new (place_of places v).page) × (taken new (place_of places v).page j ≡ true)
+    now : v ≡ n → (j : ℕ) × ((place_of places v).offset ≡ j * class_at new (place_of places v).page) × (is_taken new (place_of places v).page j ≡ true)
     now e = rw (e, at_n) (k, offset ∙ ap (λ x. k * x) (sym takes.class_of_page), taken_new)
 
   held_apart : (v w : ℕ) → (P v ⊎ (v ≡ n)) → (P w ⊎ (w ≡ n)) → (place_of places v).page ≡ (place_of places w).page → (place_of places v).offset ≡ (place_of places w).offset → v ≡ w
@@ -94,7 +94,7 @@ module _ (places : List Place) (pages new : List Page) (P : ℕ → Type 0) (hel
   pub Held-freed : Held places new Stays
   Held-freed = record {
     back = λ q j h.
-        let parts = and_parts (taken pages q j) (not (list_any (ends_at pages places last t q j) values)) (sym (frees.taken_places q j) ∙ h) in
+        let parts = and_parts (is_taken pages q j) (not (list_any (ends_at pages places last t q j) values)) (sym (frees.taken_places q j) ∙ h) in
         let w = held.back q j parts.0 in
         let none = not-true (list_any (ends_at pages places last t q j) values) parts.1 in
         let here : is_place pages (place_of places w.0) q j ≡ true = and_from _ _ (eq-eqb (place_of places w.0).page q w.2) (eq-eqb (place_of places w.0).offset (j * class_at pages q) w.3) in
@@ -102,7 +102,7 @@ module _ (places : List Place) (pages new : List Page) (P : ℕ → Type 0) (hel
     forth = λ v stays.
         let q = (place_of places v).page in let w = held.forth v stays.0 in
         let none : list_any (ends_at pages places last t q w.0) values ≡ false = false_from_ne_true _ (λ some. taken_by_other v q w.0 stays refl w.1 (found q w.0 some)) in
-        (w.0, w.1 ∙ ap (λ x. w.0 * x) (sym (frees.classes q)), frees.taken_places q w.0 ∙ and_from (taken pages q w.0) (not (list_any (ends_at pages places last t q w.0) values)) w.2 (ap not none));
+        (w.0, w.1 ∙ ap (λ x. w.0 * x) (sym (frees.classes q)), frees.taken_places q w.0 ∙ and_from (is_taken pages q w.0) (not (list_any (ends_at pages places last t q w.0) values)) w.2 (ap not none));
     apart = λ v w p r. held.apart v w p.0 r.0;
   } where
     taken_by_other : (v q j : ℕ) → Stays v → (place_of places v).page ≡ q → (place_of places v).offset ≡ j * class_at pages q → (w : ℕ) × Contains values w × (ends_at pages places last t q j w ≡ true) → ⊥

@@ -3,6 +3,7 @@ pub mod Changed
 pub mod Given
 pub mod LeastPowers
 pub mod SoundFacts
+pub mod Determined
 pub mod Ended
 pub mod Opens
 pub mod Kept

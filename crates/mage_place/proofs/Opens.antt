@@ -13,7 +13,7 @@ use Rattle.std.proofs.lemmas.Map.Keys.{IsDistinct-from_apart, IsDistinct-push, b
 use Rattle.std.proofs.lemmas.Map.Steps.{length-le_from_distinct_below, le-length_from_below}
 use Rattle.std.proofs.lemmas.Option.{slice_get-get_or}
 use Rattle.mage_place.specs.declared.pool.Page.{Page}
-use Rattle.mage_place.specs.Pages.{IsPage, taken_on, is_used, has_room}
+use Rattle.mage_place.specs.Pages.{IsPage, is_taken_on, is_used, has_room}
 use Rattle.mage_place.proofs.Changed.{other_numbers}
 
 own_number : (q : ℕ) → is_at (nat_cmp q) q ≡ true
@@ -56,28 +56,28 @@ fewer s n k ordered below h lacks =
       each q found = ⊎_elim (λ old. below q (contains_eqb s q ∙ old)) (λ new. ⊎_elim (λ e. let is = eqb-true q k e in omega arith) (λ no. absurd (false≢true no)) (or_cases (eqb q k) false new))
           (or_cases (list_any (eqb q) s.keys) (list_any (eqb q) (k ∷ [])) (sym (list_any-append (eqb q) s.keys (k ∷ [])) ∙ found))
 
-pub taken-from_used : (p : Page) → is_used p ≡ true → (k : ℕ) × (taken_on p k ≡ true)
+pub taken-from_used : (p : Page) → is_used p ≡ true → (k : ℕ) × (is_taken_on p k ≡ true)
 taken-from_used p h =
     let k = missing p.freed p.next (ltb-true (btree_set_len p.freed) p.next h) in
     (k.0, rw (lt-ltb k.0 p.next k.1, k.2) refl)
 
-pub used-from_taken : (wires : ℕ) (p : Page) (k : ℕ) → IsPage wires p → taken_on p k ≡ true → is_used p ≡ true
+pub used-from_taken : (wires : ℕ) (p : Page) (k : ℕ) → IsPage wires p → is_taken_on p k ≡ true → is_used p ≡ true
 used-from_taken wires p k ok h =
     let both = and_parts (ltb k p.next) (not (contains nat_cmp p.freed k)) h in
     lt-ltb (btree_set_len p.freed) p.next (fewer p.freed p.next k ok.ordered ok.freed (ltb-true k p.next both.0) (not-true (contains nat_cmp p.freed k) both.1))
 
-pub free-from_room : (wires : ℕ) (p : Page) → IsPage wires p → has_room wires p ≡ true → (k : ℕ) × (k < wires / p.class) × (taken_on p k ≡ false)
+pub free-from_room : (wires : ℕ) (p : Page) → IsPage wires p → has_room wires p ≡ true → (k : ℕ) × (k < wires / p.class) × (is_taken_on p k ≡ false)
 free-from_room wires p ok h = ⊎_elim freed fresh (or_cases (ltb 0 (btree_set_len p.freed)) (ltb p.next (wires / p.class)) h) where
-  fresh : ltb p.next (wires / p.class) ≡ true → (k : ℕ) × (k < wires / p.class) × (taken_on p k ≡ false)
+  fresh : ltb p.next (wires / p.class) ≡ true → (k : ℕ) × (k < wires / p.class) × (is_taken_on p k ≡ false)
   fresh l = (p.next, ltb-true p.next (wires / p.class) l, and_left (ltb p.next p.next) (not (contains nat_cmp p.freed p.next)) (le-ltb p.next p.next (omega arith)))
 
-  freed : ltb 0 (btree_set_len p.freed) ≡ true → (k : ℕ) × (k < wires / p.class) × (taken_on p k ≡ false)
+  freed : ltb 0 (btree_set_len p.freed) ≡ true → (k : ℕ) × (k < wires / p.class) × (is_taken_on p k ≡ false)
   freed l =
       let k = get_or p.freed.keys 0 0 in
       let has : contains nat_cmp p.freed k ≡ true = any_passes_from_place (is_at (nat_cmp k)) p.freed.keys 0 k (slice_get-get_or p.freed.keys 0 0 (ltb-true 0 (length p.freed.keys) l)) (own_number k) in
       (k, omega (arith, ok.freed k has, ok.within), and_right (ltb k p.next) (not (contains nat_cmp p.freed k)) (ap not has))
 
-pub room-from_free : (wires : ℕ) (p : Page) (k : ℕ) → k < wires / p.class → taken_on p k ≡ false → has_room wires p ≡ true
+pub room-from_free : (wires : ℕ) (p : Page) (k : ℕ) → k < wires / p.class → is_taken_on p k ≡ false → has_room wires p ≡ true
 room-from_free wires p k h free = ⊎_elim (λ l. or_right (ltb 0 (btree_set_len p.freed)) (ltb p.next (wires / p.class)) (lt-ltb p.next (wires / p.class) l)) full (cases_lt p.next (wires / p.class)) where
   some : contains nat_cmp p.freed k ≡ true → 0 < btree_set_len p.freed
   some has = ⊎_elim (λ l. l) (λ none. absurd (false≢true (sym (empty p.freed.keys none) ∙ has))) (cases_lt 0 (length p.freed.keys)) where

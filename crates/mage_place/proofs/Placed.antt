@@ -14,11 +14,11 @@ use Rattle.std.proofs.Math.Pow.{pow_mono}
 use Rattle.mage_place.specs.declared.pool.Page.{Page}
 use Rattle.mage_place.specs.declared.pool.Pool.{Pool}
 use Rattle.mage_place.specs.Classes.{class_of_width}
-use Rattle.mage_place.specs.Live.{IsLive, Takes, HasClass, IsLastUse, class_of_result, args_of, touched_by}
+use Rattle.mage_place.specs.Live.{IsLive, Takes, HasClass, IsLastUse, class_of_result, args_of, values_touched_by}
 use Rattle.mage_place.specs.Pages.{is_used, has_room}
 use Rattle.mage_place.specs.Places.{place_of, nowhere, next_page, LivesOn, IsFree, IsOpen, IsPlaceIn, IsPlaceOf, IsPageSize, ArePlaces}
-use Rattle.mage_place.specs.Pools.{taken, class_at, is_open, ends_at, ArePages, IsOn, IsReused, IsAdded, Gives, FreesEnded}
-use Rattle.mage_place.proofs.Given.{taken-at, taken-past, class_at-at, is_open-at, is_open-within, class-of_open}
+use Rattle.mage_place.specs.Pools.{is_taken, class_at, is_open, ends_at, ArePages, IsOn, IsReused, IsAdded, Gives, FreesEnded}
+use Rattle.mage_place.proofs.Given.{is_taken-at, is_taken-past, class_at-at, is_open-at, is_open-within, class-of_open}
 use Rattle.mage_place.proofs.Opens.{taken-from_used, used-from_taken, free-from_room, room-from_free}
 use Rattle.mage_place.proofs.Ended.{IsOn-moved}
 use Rattle.mage_place.proofs.Members.{any_found, any_finds, some_at}
@@ -83,17 +83,17 @@ module _ (instrs : List Instr) (wires : ℕ) (last : List ℕ) (ok : IsSound ins
     page_within : (v : ℕ) → Lives last (length places) v → (place_of places v).page < length pages
     page_within v lives = let d = defined v lives in (on v d.0 lives.0 d.1 d.2).0.0
 
-    free_from : (q c k : ℕ) → k < wires / c → 0 < c → class_at pages q ≡ c → taken pages q k ≡ false → IsFree instrs wires places q c k
+    free_from : (q c k : ℕ) → k < wires / c → 0 < c → class_at pages q ≡ c → is_taken pages q k ≡ false → IsFree instrs wires places q c k
     free_from q c k within pos class untaken = (within, occupied) where
       occupied : (v : ℕ) → LivesOn instrs wires places v q → ¬ ((place_of places v).offset ≡ k * c)
       occupied v lives_on at =
           let w = held.forth v (Lives-from (length places) v lives_on.0) in
           let there : (place_of places v).offset ≡ w.0 * c = w.1 ∙ ap (λ x. w.0 * class_at pages x) lives_on.1 ∙ ap (λ x. w.0 * x) class in
           let same : w.0 ≡ k = eq_of_mul-eq-mul_right c pos w.0 k (sym there ∙ at) in
-          let full : taken pages q k ≡ true = rw (← lives_on.1, ← same) w.2 in
+          let full : is_taken pages q k ≡ true = rw (← lives_on.1, ← same) w.2 in
           false≢true (sym untaken ∙ full)
 
-    not_free_from : (q c j : ℕ) → class_at pages q ≡ c → taken pages q j ≡ true → ¬ IsFree instrs wires places q c j
+    not_free_from : (q c j : ℕ) → class_at pages q ≡ c → is_taken pages q j ≡ true → ¬ IsFree instrs wires places q c j
     not_free_from q c j class full free =
         let w = held.back q j full in
         free.1 w.0 (IsLive-from (length places) w.0 fits w.1, w.2) (w.3 ∙ ap (λ x. j * x) class)
@@ -106,13 +106,13 @@ module _ (instrs : List Instr) (wires : ℕ) (last : List ℕ) (ok : IsSound ins
         let class : p.0.class ≡ c = eqb-true p.0.class c parts.0 in
         let class_here : class_at pages q ≡ c = class_at-at pages q p.0 p.1 ∙ class in
         let used = taken-from_used p.0 both.0 in
-        let w = held.back q used.0 (taken-at pages q used.0 p.0 p.1 ∙ used.1) in
+        let w = held.back q used.0 (is_taken-at pages q used.0 p.0 p.1 ∙ used.1) in
         let d = defined w.0 w.1 in
         let of_value : class_of_result d.0 ≡ c = sym (on w.0 d.0 w.1.0 d.1 d.2).1 ∙ ap (class_at pages) w.2 ∙ class_here in
         let has : HasClass instrs w.0 c = rw d.1 (d.2, of_value) in
         let room = free-from_room wires p.0 (all q p.0 p.1) both.1 in
         let within : room.0 < wires / c = subst (λ x. room.0 < wires / x) class room.1 in
-        ((w.0, (IsLive-from (length places) w.0 fits w.1, w.2), has), (room.0, free_from q c room.0 within pos class_here (taken-at pages q room.0 p.0 p.1 ∙ room.2)))
+        ((w.0, (IsLive-from (length places) w.0 fits w.1, w.2), has), (room.0, free_from q c room.0 within pos class_here (is_taken-at pages q room.0 p.0 p.1 ∙ room.2)))
 
     is_open-from : (q c : ℕ) → 0 < c → IsOpen instrs wires places q c → is_open wires pages c q ≡ true
     is_open-from q c pos open_page =
@@ -125,12 +125,12 @@ module _ (instrs : List Instr) (wires : ℕ) (last : List ℕ) (ok : IsSound ins
         let class_here : class_at pages q ≡ c = ap (class_at pages) (sym lives_on.1) ∙ o.1 ∙ i.2.1 in
         let class : p.0.class ≡ c = sym (class_at-at pages q p.0 p.1) ∙ class_here in
         let w = held.forth v lives in
-        let full : taken pages q w.0 ≡ true = subst (λ x. taken pages x w.0 ≡ true) lives_on.1 w.2 in
+        let full : is_taken pages q w.0 ≡ true = subst (λ x. is_taken pages x w.0 ≡ true) lives_on.1 w.2 in
         let k = open_page.1.0 in
-        let empty : taken pages q k ≡ false = false_from_ne_true (taken pages q k) (λ t. not_free_from q c k class_here t open_page.1.1) in
+        let empty : is_taken pages q k ≡ false = false_from_ne_true (is_taken pages q k) (λ t. not_free_from q c k class_here t open_page.1.1) in
         let below : k < wires / p.0.class = subst (λ x. k < wires / x) (sym class) open_page.1.1.0 in
         is_open-at wires pages c q p.0 p.1 ∙ and_from (eqb p.0.class c) (is_used p.0 && has_room wires p.0) (eq-eqb p.0.class c class)
-        (and_from (is_used p.0) (has_room wires p.0) (used-from_taken wires p.0 w.0 (all q p.0 p.1) (sym (taken-at pages q w.0 p.0 p.1) ∙ full)) (room-from_free wires p.0 k below (sym (taken-at pages q k p.0 p.1) ∙ empty)))
+        (and_from (is_used p.0) (has_room wires p.0) (used-from_taken wires p.0 w.0 (all q p.0 p.1) (sym (is_taken-at pages q w.0 p.0 p.1) ∙ full)) (room-from_free wires p.0 k below (sym (is_taken-at pages q k p.0 p.1) ∙ empty)))
 
     place_in : (c : ℕ) (place : Place) (new : List Page) → 0 < c → next_page places ≡ length pages → Gives pages new wires c place → IsPlaceIn instrs wires places c place
     place_in c place new pos next gives = ⊎_elim reused added gives.3 where
@@ -206,8 +206,8 @@ module _ (instrs : List Instr) (wires : ℕ) (last : List ℕ) (ok : IsSound ins
 
     -- ---- where the instruction has a result
     module _ (has : has_result i.op ≡ true) (pos : 0 < class_of_result i) (gives : Gives pages mid wires (class_of_result i) place) where
-      fresh : taken pages place.page gives.0 ≡ false
-      fresh = ⊎_elim (λ (r : IsReused pages mid wires (class_of_result i) place.page gives.0). r.free) (λ (a : IsAdded pages mid wires (class_of_result i) place.page gives.0). taken-past pages place.page gives.0 (omega (arith, a.page))) gives.3
+      fresh : is_taken pages place.page gives.0 ≡ false
+      fresh = ⊎_elim (λ (r : IsReused pages mid wires (class_of_result i) place.page gives.0). r.free) (λ (a : IsAdded pages mid wires (class_of_result i) place.page gives.0). is_taken-past pages place.page gives.0 (omega (arith, a.page))) gives.3
 
       sizes : (place.page < length mid) × (length pages ≤ length mid) × (length mid ≤ length pages + 1) × (max (length pages) (place.page + 1) ≡ length mid)
       sizes = ⊎_elim reused added gives.3 where
@@ -234,18 +234,18 @@ module _ (instrs : List Instr) (wires : ℕ) (last : List ℕ) (ok : IsSound ins
             let class = gives.2.classes (place_of places v).page o.0.0 in
             rw (old_place v below) ((omega (arith, o.0.0, sizes.1), o.0.1, o.0.2 ∙ ap (λ x. o.0.1 * x) (sym class)), class ∙ o.1)
 
-      all_touched : touched_by i t ≡ args_of i ++ t ∷ []
+      all_touched : values_touched_by i t ≡ args_of i ++ t ∷ []
       all_touched = ap (λ b. args_of i ++ cond b (t ∷ []) []) has
 
       only_t : (v : ℕ) → Contains (t ∷ []) v → v ≡ t
       only_t v c = let zeroth : c.0 ≡ 0 = omega (arith, c.1) in sym (subst (λ k. get_or (t ∷ []) k v ≡ v) zeroth c.2)
 
-      known : (v : ℕ) → Contains (touched_by i t) v → slice_index last v ≡ t → Lives last t v ⊎ (v ≡ t)
+      known : (v : ℕ) → Contains (values_touched_by i t) v → slice_index last v ≡ t → Lives last t v ⊎ (v ≡ t)
       known v among ends = ⊎_elim (λ c. inl (arg_lives v c)) (λ c. inr (only_t v c)) (Contains-append_cases (args_of i) (t ∷ []) v (rw all_touched at among))
 
-      to_later : (v : ℕ) → (Lives last t v ⊎ (v ≡ t)) × ¬ (Contains (touched_by i t) v × (slice_index last v ≡ t)) → Lives last (t + 1) v
+      to_later : (v : ℕ) → (Lives last t v ⊎ (v ≡ t)) × ¬ (Contains (values_touched_by i t) v × (slice_index last v ≡ t)) → Lives last (t + 1) v
       to_later v stays = ⊎_elim before here stays.0 where
-        not_here : Contains (touched_by i t) v → slice_index last v ≢ t
+        not_here : Contains (values_touched_by i t) v → slice_index last v ≢ t
         not_here c e = stays.1 (c, e)
 
         before : Lives last t v → Lives last (t + 1) v
@@ -255,13 +255,13 @@ module _ (instrs : List Instr) (wires : ℕ) (last : List ℕ) (ok : IsSound ins
         here e =
             let own = lasts t fits in
             let late : t ≤ slice_index last t = ⊎_elim (λ u. omega (arith, u)) (λ w. omega (arith, w.0)) own.use_or_own in
-            let last_t : Contains (touched_by i t) t = rw all_touched (Contains-append_right (args_of i) (t ∷ []) t (0, omega arith, refl)) in
+            let last_t : Contains (values_touched_by i t) t = rw all_touched (Contains-append_right (args_of i) (t ∷ []) t (0, omega arith, refl)) in
             rw e (⊎_elim (λ u. absurd (not_here (rw e last_t) (rw e u))) (λ ne. (omega arith, omega (arith, late, ne))) (cases_eq (slice_index last t) t))
 
-      from_later : (v : ℕ) → Lives last (t + 1) v → (Lives last t v ⊎ (v ≡ t)) × ¬ (Contains (touched_by i t) v × (slice_index last v ≡ t))
+      from_later : (v : ℕ) → Lives last (t + 1) v → (Lives last t v ⊎ (v ≡ t)) × ¬ (Contains (values_touched_by i t) v × (slice_index last v ≡ t))
       from_later v lives = (⊎_elim (λ e. inr e) (λ ne. inl (omega (arith, lives.0, ne), omega (arith, lives.1))) (cases_eq v t), λ ends. omega (arith, lives.1, ends.1))
 
-      pub values_on : (v : ℕ) → Contains (touched_by i t) v → (v < t + 1) × IsOn mid (place_of (places ++ place ∷ []) v)
+      pub values_on : (v : ℕ) → Contains (values_touched_by i t) v → (v < t + 1) × IsOn mid (place_of (places ++ place ∷ []) v)
       values_on v among = ⊎_elim args here (Contains-append_cases (args_of i) (t ∷ []) v (rw all_touched at among)) where
         args : Contains (args_of i) v → (v < t + 1) × IsOn mid (place_of (places ++ place ∷ []) v)
         args c = let b = arg_below instrs t v i ok is c in let below : v < t + 1 = omega (arith, b.0) in (below, (on_mid v b.1.0 below b.1.1 b.1.2).0)
@@ -269,15 +269,15 @@ module _ (instrs : List Instr) (wires : ℕ) (last : List ℕ) (ok : IsSound ins
         here : Contains (t ∷ []) v → (v < t + 1) × IsOn mid (place_of (places ++ place ∷ []) v)
         here c = let e = only_t v c in let below : v < t + 1 = omega (arith, e) in (below, (on_mid v i below (subst (λ x. slice_get instrs x ≡ Some i) (sym e) is) has).0)
 
-      pub Kept-result : (new : List Page) → FreesEnded mid new (places ++ place ∷ []) last t (touched_by i t) → Kept instrs wires last (t + 1) (places ++ place ∷ []) new
+      pub Kept-result : (new : List Page) → FreesEnded mid new (places ++ place ∷ []) last t (values_touched_by i t) → Kept instrs wires last (t + 1) (places ++ place ∷ []) new
       Kept-result new frees = record {
         count = count_more;
         few = omega (arith, frees.count, sizes.2, kept.few);
         next = next_page-push places place ∙ ap (λ n. max n (place.page + 1)) kept.next ∙ sizes.3 ∙ sym frees.count;
         on = λ v j h at res. let o = on_mid v j h at res in let p = place_of (places ++ place ∷ []) v in (IsOn-moved mid new p frees.count frees.classes o.0, frees.classes p.page ∙ o.1);
         held = Held-iff (places ++ place ∷ []) new _ (Lives last (t + 1)) to_later from_later
-            (Held-freed (places ++ place ∷ []) mid new (λ v. Lives last t v ⊎ (v ≡ t)) held_mid last t (touched_by i t) frees known
-            (λ q j v. any_finds (ends_at mid (places ++ place ∷ []) last t q j) (touched_by i t) v) (λ q j. any_found (ends_at mid (places ++ place ∷ []) last t q j) (touched_by i t)));
+            (Held-freed (places ++ place ∷ []) mid new (λ v. Lives last t v ⊎ (v ≡ t)) held_mid last t (values_touched_by i t) frees known
+            (λ q j v. any_finds (ends_at mid (places ++ place ∷ []) last t q j) (values_touched_by i t) v) (λ q j. any_found (ends_at mid (places ++ place ∷ []) last t q j) (values_touched_by i t)));
         placed = placed_more (record {
           with_result = λ yes. place_in places pages kept_fits (subst (λ n. Held places pages (Lives last n)) (sym kept.count) kept.held) (subst (AreOn instrs places pages) (sym kept.count) kept.on) all (class_of_result i) place mid pos kept.next gives;
           without = λ no. absurd (false≢true (sym no ∙ has));
@@ -286,13 +286,13 @@ module _ (instrs : List Instr) (wires : ℕ) (last : List ℕ) (ok : IsSound ins
 
     -- ---- where it has none
     module _ (none : has_result i.op ≡ false) (at_nowhere : place ≡ nowhere) (same_pages : mid ≡ pages) where
-      only_args : touched_by i t ≡ args_of i
+      only_args : values_touched_by i t ≡ args_of i
       only_args = ap (λ b. args_of i ++ cond b (t ∷ []) []) none ∙ append-nil (args_of i)
 
-      to_next : (v : ℕ) → Lives last t v × ¬ (Contains (touched_by i t) v × (slice_index last v ≡ t)) → Lives last (t + 1) v
+      to_next : (v : ℕ) → Lives last t v × ¬ (Contains (values_touched_by i t) v × (slice_index last v ≡ t)) → Lives last (t + 1) v
       to_next v stays = ⊎_elim (λ e. absurd (stays.1 (rw only_args (ends_among v stays.0.0 e), e))) (λ ne. (omega (arith, stays.0.0), omega (arith, stays.0.1, ne))) (cases_eq (slice_index last v) t)
 
-      from_next : (v : ℕ) → Lives last (t + 1) v → Lives last t v × ¬ (Contains (touched_by i t) v × (slice_index last v ≡ t))
+      from_next : (v : ℕ) → Lives last (t + 1) v → Lives last t v × ¬ (Contains (values_touched_by i t) v × (slice_index last v ≡ t))
       from_next v lives = (⊎_elim here (λ ne. (omega (arith, lives.0, ne), omega (arith, lives.1))) (cases_eq v t), λ ends. omega (arith, lives.1, ends.1)) where
         here : v ≡ t → Lives last t v
         here e =
@@ -308,13 +308,13 @@ module _ (instrs : List Instr) (wires : ℕ) (last : List ℕ) (ok : IsSound ins
           let on = kept.on (arg_of i 0) d.0 fact.0 d.1 d.2.0 in
           omega (arith, on.0.0)
 
-      pub values_on_none : (v : ℕ) → Contains (touched_by i t) v → (v < t + 1) × IsOn mid (place_of (places ++ place ∷ []) v)
+      pub values_on_none : (v : ℕ) → Contains (values_touched_by i t) v → (v < t + 1) × IsOn mid (place_of (places ++ place ∷ []) v)
       values_on_none v among =
           let b = arg_below instrs t v i ok is (rw only_args at among) in
           let o = kept.on v b.1.0 b.0 b.1.1 b.1.2 in
           (omega (arith, b.0), rw (old_place v b.0) (subst (λ ps. IsOn ps (place_of places v)) (sym same_pages) o.0))
 
-      pub Kept-none : (new : List Page) → FreesEnded mid new (places ++ place ∷ []) last t (touched_by i t) → Kept instrs wires last (t + 1) (places ++ place ∷ []) new
+      pub Kept-none : (new : List Page) → FreesEnded mid new (places ++ place ∷ []) last t (values_touched_by i t) → Kept instrs wires last (t + 1) (places ++ place ∷ []) new
       Kept-none new frees =
           let size : length new ≡ length pages = frees.count ∙ ap length same_pages in
           let grown : next_page (places ++ place ∷ []) ≡ max (length pages) (0 + 1) = next_page-push places place ∙ ap (λ n. max n (place.page + 1)) kept.next ∙ ap (λ (p : Place). max (length pages) (p.page + 1)) at_nowhere in
@@ -326,21 +326,21 @@ module _ (instrs : List Instr) (wires : ℕ) (last : List ℕ) (ok : IsSound ins
                 (λ ne. let below : v < t = omega (arith, h, ne) in let o = kept.on v j below at res in let p = place_of places v in
                 rw (old_place v below) (IsOn-moved pages new p size (λ q. frees.classes q ∙ ap (λ ps. class_at ps q) same_pages) o.0, frees.classes p.page ∙ ap (λ ps. class_at ps p.page) same_pages ∙ o.1)) (cases_eq v t);
             held = Held-iff (places ++ place ∷ []) new _ (Lives last (t + 1)) to_next from_next
-                (Held-freed (places ++ place ∷ []) mid new (Lives last t) (subst (λ ps. Held (places ++ place ∷ []) ps (Lives last t)) (sym same_pages) held_after) last t (touched_by i t) frees
+                (Held-freed (places ++ place ∷ []) mid new (Lives last t) (subst (λ ps. Held (places ++ place ∷ []) ps (Lives last t)) (sym same_pages) held_after) last t (values_touched_by i t) frees
                 (λ v c e. arg_lives v (rw only_args at c))
-                (λ q j v. any_finds (ends_at mid (places ++ place ∷ []) last t q j) (touched_by i t) v) (λ q j. any_found (ends_at mid (places ++ place ∷ []) last t q j) (touched_by i t)));
+                (λ q j v. any_finds (ends_at mid (places ++ place ∷ []) last t q j) (values_touched_by i t) v) (λ q j. any_found (ends_at mid (places ++ place ∷ []) last t q j) (values_touched_by i t)));
             placed = placed_more (record { with_result = λ yes. absurd (false≢true (sym none ∙ yes)); without = λ no. at_nowhere });
           }
 
     -- either way
     module _ (pos : 0 < class_of_result i) (given : MatchBool (has_result i.op) (Gives pages mid wires (class_of_result i) place) ((mid ≡ pages) × (place ≡ nowhere))) where
-      pub values_more : (v : ℕ) → Contains (touched_by i t) v → (v < t + 1) × IsOn mid (place_of (places ++ place ∷ []) v)
+      pub values_more : (v : ℕ) → Contains (values_touched_by i t) v → (v < t + 1) × IsOn mid (place_of (places ++ place ∷ []) v)
       values_more v among = ⊎_elim
           (λ has. values_on has pos (MatchBool-at_true (Gives pages mid wires (class_of_result i) place) ((mid ≡ pages) × (place ≡ nowhere)) has given) v among)
           (λ none. let g = MatchBool-at_false (Gives pages mid wires (class_of_result i) place) ((mid ≡ pages) × (place ≡ nowhere)) none given in values_on_none none g.1 g.0 v among)
           (cases_Bool (has_result i.op))
 
-      pub Kept-more : (new : List Page) → FreesEnded mid new (places ++ place ∷ []) last t (touched_by i t) → Kept instrs wires last (t + 1) (places ++ place ∷ []) new
+      pub Kept-more : (new : List Page) → FreesEnded mid new (places ++ place ∷ []) last t (values_touched_by i t) → Kept instrs wires last (t + 1) (places ++ place ∷ []) new
       Kept-more new frees = ⊎_elim
           (λ has. Kept-result has pos (MatchBool-at_true (Gives pages mid wires (class_of_result i) place) ((mid ≡ pages) × (place ≡ nowhere)) has given) new frees)
           (λ none. let g = MatchBool-at_false (Gives pages mid wires (class_of_result i) place) ((mid ≡ pages) × (place ≡ nowhere)) none given in Kept-none none g.1 g.0 new frees)

@@ -13,7 +13,7 @@ use Rattle.mage_instr.specs.declared.instr.Step.{Step}
 use Rattle.mage_instr.specs.Opcodes.{has_result}
 use Rattle.mage_instr.specs.Sound.{IsSound}
 use Rattle.mage_instr.specs.Trace.{IsStep, IsTrace}
-use Rattle.mage_place.specs.Live.{args_of, touched_by}
+use Rattle.mage_place.specs.Live.{args_of, values_touched_by}
 use Rattle.mage_place.specs.Places.{place_of}
 use Rattle.mage_place.specs.Steps.{IsStepOf, AreSteps}
 use Rattle.mage_place.proofs.Members.{some_at}
@@ -116,7 +116,7 @@ needs_more places values k q A B h a b = (to, from) where
     only c = let zeroth : c.0 ≡ 0 = omega (arith, c.1) in sym (subst (λ j. get_or (get_or values k 0 ∷ []) j w.0 ≡ w.0) zeroth c.2)
 
 -- an instruction touches no later value
-pub touched_below : (instrs : List Instr) (t v : ℕ) (i : Instr) → IsSound instrs → slice_get instrs t ≡ Some i → Contains (touched_by i t) v → v < t + 1
+pub touched_below : (instrs : List Instr) (t v : ℕ) (i : Instr) → IsSound instrs → slice_get instrs t ≡ Some i → Contains (values_touched_by i t) v → v < t + 1
 touched_below instrs t v i ok is among = ⊎_elim (λ c. let b = (arg_below instrs t v i ok is c).0 in omega (arith, b)) own (Contains-append_cases (args_of i) (cond (has_result i.op) (t ∷ []) []) v among) where
   by_case : (b : Bool) → Contains (cond b (t ∷ []) []) v → v < t + 1
   by_case true c = let zeroth : c.0 ≡ 0 = omega (arith, c.1) in let e : t ≡ v = subst (λ k. get_or (t ∷ []) k v ≡ v) zeroth c.2 in omega (arith, e)

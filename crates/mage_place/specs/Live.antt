@@ -9,8 +9,8 @@ abbrev pub args_of : Instr → List ℕ
 args_of i = take (arity_of i.op) i.args
 
 -- the values that instruction t touches: those that it takes, and the one that it defines
-abbrev pub touched_by : Instr → (t : ℕ) → List ℕ
-touched_by i t = args_of i ++ (if has_result i.op then t ∷ [] else [])
+abbrev pub values_touched_by : Instr → (t : ℕ) → List ℕ
+values_touched_by i t = args_of i ++ (if has_result i.op then t ∷ [] else [])
 
 -- instruction s takes the value of instruction v
 abbrev pub Takes : List Instr → (s v : ℕ) → Type 0

@@ -5,8 +5,8 @@ use Rattle.std.specs.BTreeSet.{contains, btree_set_len, IsOrdered}
 use Rattle.mage_place.specs.declared.pool.Page.{Page}
 
 -- whether place k is taken
-abbrev pub taken_on : Page → ℕ → Bool
-taken_on p k = nat_lt k p.next && not (contains nat_cmp p.freed k)
+abbrev pub is_taken_on : Page → ℕ → Bool
+is_taken_on p k = nat_lt k p.next && not (contains nat_cmp p.freed k)
 
 -- whether some place is taken
 abbrev pub is_used : Page → Bool

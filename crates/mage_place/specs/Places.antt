@@ -18,7 +18,8 @@ nowhere = record { page = 0; offset = 0 }
 abbrev pub place_of : List Place → ℕ → Place
 place_of places v = slice_index_or places v nowhere
 
--- one more than the greatest page so far
+-- One more than the greatest page so far. An instruction without a result counts with page 0: it takes a value, so
+-- page 0 stands already.
 abbrev pub next_page : List Place → ℕ
 next_page [] = 0
 next_page (place ∷ places) = max (place.page + 1) (next_page places)

@@ -8,11 +8,11 @@ use Rattle.mage_instr.specs.declared.instr.Place.{Place}
 use Rattle.mage_place.specs.declared.pool.Page.{Page}
 use Rattle.mage_place.specs.declared.pool.Pool.{Pool}
 use Rattle.mage_place.specs.Places.{place_of}
-use Rattle.mage_place.specs.Pages.{taken_on, is_used, has_room, IsPage}
+use Rattle.mage_place.specs.Pages.{is_taken_on, is_used, has_room, IsPage}
 
 -- whether place k of page q is taken
-abbrev pub taken : List Page → (q k : ℕ) → Bool
-taken pages q k = option_map_or (λ p. taken_on p k) (slice_get pages q) false
+abbrev pub is_taken : List Page → (q k : ℕ) → Bool
+is_taken pages q k = option_map_or (λ p. is_taken_on p k) (slice_get pages q) false
 
 -- the class of page q
 abbrev pub class_at : List Page → (q : ℕ) → ℕ
@@ -50,15 +50,15 @@ pub record TakesPlace (old new : List Page) (wires c r k : ℕ) : Type 0 where
   pub within : k < wires / c
   pub class_of_page : class_at new r ≡ c
   pub classes : (q : ℕ) → q < length old → class_at new q ≡ class_at old q
-  pub taken_places : (q j : ℕ) → taken new q j ≡ (taken old q j || ((q == r) && (j == k)))
+  pub taken_places : (q j : ℕ) → is_taken new q j ≡ (is_taken old q j || ((q == r) && (j == k)))
 
 -- r is the open page of the class c with the highest number, and k its lowest free place
 pub record IsReused (old new : List Page) (wires c r k : ℕ) : Type 0 where
   pub count : length new ≡ length old
   pub open_page : is_open wires old c r ≡ true
   pub highest : (q : ℕ) → r < q → is_open wires old c q ≡ false
-  pub free : taken old r k ≡ false
-  pub lowest : (j : ℕ) → j < k → taken old r j ≡ true
+  pub free : is_taken old r k ≡ false
+  pub lowest : (j : ℕ) → j < k → is_taken old r j ≡ true
 
 -- no page of the class c is open, and r is a new page
 pub record IsAdded (old new : List Page) (wires c r k : ℕ) : Type 0 where
@@ -69,7 +69,7 @@ pub record IsAdded (old new : List Page) (wires c r k : ℕ) : Type 0 where
 
 -- the lowest free place of page r, whose class is c
 abbrev pub IsOfPage : (old new : List Page) → (wires c r : ℕ) → Place → Type 0
-IsOfPage old new wires c r place = (k : ℕ) × (place.page ≡ r) × (place.offset ≡ k * c) × (length new ≡ length old) × TakesPlace old new wires c r k × (taken old r k ≡ false) × ((j : ℕ) → j < k → taken old r j ≡ true)
+IsOfPage old new wires c r place = (k : ℕ) × (place.page ≡ r) × (place.offset ≡ k * c) × (length new ≡ length old) × TakesPlace old new wires c r k × (is_taken old r k ≡ false) × ((j : ℕ) → j < k → is_taken old r j ≡ true)
 
 -- a value of the class c gets this place
 abbrev pub Gives : (old new : List Page) → (wires c : ℕ) → Place → Type 0
@@ -87,7 +87,7 @@ IsOn pages place = (place.page < length pages) × (k : ℕ) × (place.offset ≡
 pub record Frees (old new : List Page) (place : Place) : Type 0 where
   pub count : length new ≡ length old
   pub classes : (q : ℕ) → class_at new q ≡ class_at old q
-  pub taken_places : (q j : ℕ) → taken new q j ≡ (taken old q j && not (is_place old place q j))
+  pub taken_places : (q j : ℕ) → is_taken new q j ≡ (is_taken old q j && not (is_place old place q j))
 
 -- whether value v ends at instruction t and this is its place
 abbrev pub ends_at : List Page → List Place → (last : List ℕ) → (t q j v : ℕ) → Bool
@@ -97,4 +97,4 @@ ends_at pages places last t q j v = (slice_index last v == t) && is_place pages 
 pub record FreesEnded (old new : List Page) (places : List Place) (last : List ℕ) (t : ℕ) (values : List ℕ) : Type 0 where
   pub count : length new ≡ length old
   pub classes : (q : ℕ) → class_at new q ≡ class_at old q
-  pub taken_places : (q j : ℕ) → taken new q j ≡ (taken old q j && not (list_any (ends_at old places last t q j) values))
+  pub taken_places : (q j : ℕ) → is_taken new q j ≡ (is_taken old q j && not (list_any (ends_at old places last t q j) values))

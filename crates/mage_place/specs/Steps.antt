@@ -4,12 +4,12 @@ use Rattle.mage_instr.specs.declared.instr.Instr.{Instr}
 use Rattle.mage_instr.specs.declared.instr.Place.{Place}
 use Rattle.mage_instr.specs.declared.instr.Step.{Step}
 use Rattle.mage_instr.specs.Trace.{pages_of, IsStep}
-use Rattle.mage_place.specs.Live.{touched_by}
+use Rattle.mage_place.specs.Live.{values_touched_by}
 use Rattle.mage_place.specs.Places.{place_of}
 
 -- instruction t needs page q: a value that it takes, or the one that it defines, stands there
 abbrev pub Needs : List Place → (t : ℕ) → Instr → (q : ℕ) → Type 0
-Needs places t i q = (v : ℕ) × Contains (touched_by i t) v × ((place_of places v).page ≡ q)
+Needs places t i q = (v : ℕ) × Contains (values_touched_by i t) v × ((place_of places v).page ≡ q)
 
 -- behind its pages a step has 0
 abbrev pub IsPadded : Step → Type 0

@@ -1,7 +1,7 @@
 ghost use Rattle.std.specs.Prelude.{◌≡◌, ◌≤◌};
 ghost use Rattle.mage_place.specs.Classes.{IsLeastPower, class_of_width};
 
-/// The class of a value of this width: the least power of two not below it.
+/// The class of a value of this width, which is 1 to 64 bits: the least power of two not below the width, 1 to 64.
 pub fn class_of(width: u8) -> u8
     requires { (1 ≤ width) × (width ≤ 64) }
     ensures least { IsLeastPower width result }

@@ -3,6 +3,7 @@
 
 mod classes;
 mod last;
+mod laws;
 mod page;
 mod placing;
 mod pool;
@@ -11,4 +12,5 @@ mod steps;
 mod touched;
 
 pub use classes::class_of;
+pub use laws::places_are_determined;
 pub use placing::place;

@@ -1,6 +1,6 @@
 // One page: which of its places are taken.
 ghost use Rattle.std.specs.Prelude.{◌≡◌, ◌<◌, ◌≤◌, ◌==◌, ◌||◌, ◌&&◌, ◌/◌, ℕ, true, false, not, nat_lt, OnOk};
-ghost use Rattle.mage_place.specs.Pages.{IsPage, taken_on, is_used, has_room};
+ghost use Rattle.mage_place.specs.Pages.{IsPage, is_taken_on, is_used, has_room};
 
 use crate::pool::Page;
 use mage_base::Memory;
@@ -11,9 +11,9 @@ pub fn take_lowest(page: &mut Page, wires: u32) -> u32
     requires room { has_room wires page.old ≡ true }
     ensures ok { IsPage wires page.new }
     ensures within { result < wires / page.old.class }
-    ensures free { taken_on page.old result ≡ false }
-    ensures lowest { (k : ℕ) → k < result → taken_on page.old k ≡ true }
-    ensures taken { (k : ℕ) → taken_on page.new k ≡ (taken_on page.old k || (k == result)) }
+    ensures free { is_taken_on page.old result ≡ false }
+    ensures lowest { (k : ℕ) → k < result → is_taken_on page.old k ≡ true }
+    ensures taken { (k : ℕ) → is_taken_on page.new k ≡ (is_taken_on page.old k || (k == result)) }
     ensures class { page.new.class ≡ page.old.class }
 {
     match page.freed.pop_first() {
@@ -30,7 +30,7 @@ pub fn take_lowest(page: &mut Page, wires: u32) -> u32
 pub fn free_place(page: &mut Page, wires: u32, place: u32) -> Result<(), Memory>
     requires { IsPage wires page.old }
     ensures ok { OnOk result (IsPage wires page.new) }
-    ensures taken { OnOk result ((k : ℕ) → taken_on page.new k ≡ (taken_on page.old k && not (k == place))) }
+    ensures taken { OnOk result ((k : ℕ) → is_taken_on page.new k ≡ (is_taken_on page.old k && not (k == place))) }
     ensures class { OnOk result (page.new.class ≡ page.old.class) }
 {
     if place < page.next {

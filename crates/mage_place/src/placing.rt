@@ -3,7 +3,7 @@ ghost use Rattle.mage_instr.specs.Opcodes.{arity_of, has_result, width_of_result
 ghost use Rattle.mage_instr.specs.declared.instr.TheConstants.{NEVER};
 ghost use Rattle.mage_instr.specs.Sound.{IsSound};
 ghost use Rattle.mage_instr.specs.Trace.{IsTrace};
-ghost use Rattle.mage_place.specs.Live.{class_of_result, touched_by};
+ghost use Rattle.mage_place.specs.Live.{class_of_result, values_touched_by};
 ghost use Rattle.mage_place.specs.Places.{IsPageSize, ArePlaces, nowhere, place_of};
 ghost use Rattle.mage_place.specs.Steps.{AreSteps};
 ghost use Rattle.mage_place.specs.Pools.{IsPool, IsOn, Gives, FreesEnded};
@@ -18,11 +18,16 @@ use mage_base::Memory;
 use mage_instr::{Instr, Place, Step, result_width};
 use std::alloc::Global;
 
-/// The place of each result in pages of `page` wires, and the pages that each instruction needs. An instruction
-/// without a result has page 0 and offset 0 as its place.
+/// The place of each result in pages of `page` wires, and the pages that each instruction needs: one place and one
+/// step for each instruction, in order. An instruction without a result has page 0 and wire 0 as its place. The
+/// pages of a step ascend and differ, and 0 stands behind them.
 ///
 /// A result goes to the open page of its class with the highest number, at its lowest free place. A page is open
-/// where a live value stands on it and a place is free. Where no page is open, a new one is made.
+/// where a live value stands on it and a place is free. Where no page is open, a new one is made, with the next
+/// number from 0. So a page without a live value is never taken again.
+///
+/// `instrs` is a list that can run, and `page` is a power of two from 64 to 65,536. The one error is want of memory,
+/// and no clause says when it comes, nor how long the call takes.
 pub fn place(alloc: Global, instrs: &[Instr], page: u32) -> Result<(Vec<Place>, Vec<Step>), Memory>
     requires sound { IsSound instrs.now }
     requires page { IsPageSize page }
@@ -79,10 +84,10 @@ fn free_ended(
     t: u32,
 ) -> Result<(), Memory>
     requires pool { IsPool pool.old }
-    requires values { (v : ℕ) → Contains (touched_by instr t) v → (v < length places.now) × (v < length last.now) × IsOn pool.old.pages.items (place_of places.now v) }
+    requires values { (v : ℕ) → Contains (values_touched_by instr t) v → (v < length places.now) × (v < length last.now) × IsOn pool.old.pages.items (place_of places.now v) }
     ensures pool { OnOk result (IsPool pool.new) }
     ensures wires { OnOk result (pool.new.wires ≡ pool.old.wires) }
-    ensures freed { OnOk result (FreesEnded pool.old.pages.items pool.new.pages.items places.now last.now t (touched_by instr t)) }
+    ensures freed { OnOk result (FreesEnded pool.old.pages.items pool.new.pages.items places.now last.now t (values_touched_by instr t)) }
 {
     let touched = touched_values(instr, t);
     for k in 0..usize::from(touched.count) {

@@ -2,7 +2,7 @@
 ghost use Rattle.std.specs.Prelude.{◌≡◌, ◌<◌, ◌≤◌, ◌+◌, ◌↔◌, ◌⊎◌, ℕ, length, slice_index, Contains, IfOk};
 ghost use Rattle.mage_instr.specs.Sound.{IsSound};
 ghost use Rattle.mage_instr.specs.Trace.{IsStep, pages_of};
-ghost use Rattle.mage_place.specs.Live.{touched_by};
+ghost use Rattle.mage_place.specs.Live.{values_touched_by};
 ghost use Rattle.mage_place.specs.Steps.{AreSteps, IsStepOf, IsPadded};
 
 use crate::touched::touched_values;
@@ -25,7 +25,7 @@ pub fn trace_of(alloc: Global, instrs: &[Instr], places: &[Place]) -> Result<Vec
 
 // The pages on which the values stand that instruction t touches.
 fn step_of(places: &[Place], instr: Instr, t: u32) -> Step
-    requires { (v : ℕ) → Contains (touched_by instr t) v → v < length places.now }
+    requires { (v : ℕ) → Contains (values_touched_by instr t) v → v < length places.now }
     ensures { IsStepOf places.now t instr result }
 {
     let touched = touched_values(instr, t);

@@ -1,5 +1,5 @@
 ghost use Rattle.std.specs.Prelude.{◌≡◌, ◌≤◌, take};
-ghost use Rattle.mage_place.specs.Live.{touched_by};
+ghost use Rattle.mage_place.specs.Live.{values_touched_by};
 
 use mage_instr::{Instr, arity, result_width};
 
@@ -13,7 +13,7 @@ pub struct Touched {
 // The arguments of instruction t, and then its result.
 pub fn touched_values(instr: Instr, t: u32) -> Touched
     ensures four { result.count ≤ 4 }
-    ensures values { take result.count result.values ≡ touched_by instr t }
+    ensures values { take result.count result.values ≡ values_touched_by instr t }
 {
     let [a, b, c] = instr.args;
     let count = arity(instr.op);

@@ -66,6 +66,23 @@ fn a_value_never_used(rt: HostRuntime) -> Result<(), Fail> {
     Ok(())
 }
 
+// A page whose one live value is taken for the last time is retired, and the next value of its class gets a new page.
+#[test]
+fn a_retired_page(rt: HostRuntime) -> Result<(), Fail> {
+    let instrs = [
+        instr!(Input 8 0 0),
+        instr!(Output 8 0 0),
+        instr!(Input 8 0 0),
+        instr!(Output 8 2 0),
+    ];
+    let (places, trace) = place(rt.alloc(), &instrs, 64).ok().ok_or("no memory")?;
+    let expected = [at!(0 0), at!(0 0), at!(1 0), at!(0 0)];
+    assert_eq!(rt; places.as_slice(), expected.as_slice());
+    let needed = [pages!(0), pages!(0), pages!(1), pages!(1)];
+    assert_eq!(rt; trace.as_slice(), needed.as_slice());
+    Ok(())
+}
+
 // Two pages are open: the one with the higher number is filled first, and then the free place of the other.
 #[test]
 fn the_highest_open_page(rt: HostRuntime) -> Result<(), Fail> {

@@ -1,5 +1,5 @@
 use Rattle.std.proofs.Common.{◌<◌, length, get_or, Contains, arith, ◌∙◌}
-use Rattle.mage_place.specs.Live.{touched_by}
+use Rattle.mage_place.specs.Live.{values_touched_by}
 use Rattle.mage_place.specs.Places.{place_of}
 use Rattle.mage_place.proofs.SoundFacts.{in_front}
 use Rattle.mage_place.proofs.Ended.{IsOn-moved, FreesEnded-ends, FreesEnded-stays}
@@ -10,21 +10,21 @@ pub bounds-last-value : goal.bounds-last-value
 bounds-last-value c =
     let touched = c.touched_values-touched.result in
     let inside : c.loop-k.k < length touched.values = omega (arith, c.touched_values-touched.ensures.four) in
-    let among : Contains (touched_by c.args.instr c.args.t) (get_or touched.values c.loop-k.k 0) = rw (← c.touched_values-touched.ensures.values) (in_front touched.values touched.count c.loop-k.k (omega arith) inside) in
+    let among : Contains (values_touched_by c.args.instr c.args.t) (get_or touched.values c.loop-k.k 0) = rw (← c.touched_values-touched.ensures.values) (in_front touched.values touched.count c.loop-k.k (omega arith) inside) in
     (c.requires.values _ among).1
 
 pub bounds-places-value : goal.bounds-places-value
 bounds-places-value c =
     let touched = c.touched_values-touched.result in
     let inside : c.loop-k.k < length touched.values = omega (arith, c.touched_values-touched.ensures.four) in
-    let among : Contains (touched_by c.args.instr c.args.t) (get_or touched.values c.loop-k.k 0) = rw (← c.touched_values-touched.ensures.values) (in_front touched.values touched.count c.loop-k.k (omega arith) inside) in
+    let among : Contains (values_touched_by c.args.instr c.args.t) (get_or touched.values c.loop-k.k 0) = rw (← c.touched_values-touched.ensures.values) (in_front touched.values touched.count c.loop-k.k (omega arith) inside) in
     (c.requires.values _ among).0
 
 pub free-requires-clause-place : goal.free-requires-clause-place
 free-requires-clause-place c =
     let touched = c.touched_values-touched.result in
     let inside : c.loop-k.k < length touched.values = omega (arith, c.touched_values-touched.ensures.four) in
-    let among : Contains (touched_by c.args.instr c.args.t) (get_or touched.values c.loop-k.k 0) = rw (← c.touched_values-touched.ensures.values) (in_front touched.values touched.count c.loop-k.k (omega arith) inside) in
+    let among : Contains (values_touched_by c.args.instr c.args.t) (get_or touched.values c.loop-k.k 0) = rw (← c.touched_values-touched.ensures.values) (in_front touched.values touched.count c.loop-k.k (omega arith) inside) in
     let fact = c.requires.values _ among in
     IsOn-moved c.args.pool.now.pages.items c.loop-k.pool.pages.items (place_of c.args.places.now (get_or touched.values c.loop-k.k 0)) c.loop-k.invariant.freed.count c.loop-k.invariant.freed.classes fact.2
 
@@ -32,7 +32,7 @@ pub loop-k-preserved : goal.loop-k-preserved
 loop-k-preserved c =
     let touched = c.touched_values-touched.result in
     let inside : c.loop-k.k < length touched.values = omega (arith, c.touched_values-touched.ensures.four) in
-    let among : Contains (touched_by c.args.instr c.args.t) (get_or touched.values c.loop-k.k 0) = rw (← c.touched_values-touched.ensures.values) (in_front touched.values touched.count c.loop-k.k (omega arith) inside) in
+    let among : Contains (values_touched_by c.args.instr c.args.t) (get_or touched.values c.loop-k.k 0) = rw (← c.touched_values-touched.ensures.values) (in_front touched.values touched.count c.loop-k.k (omega arith) inside) in
     let values = touched.values in let k = c.loop-k.k in let old = c.args.pool.now in
     let fact = c.requires.values _ among in let kept = c.loop-k.invariant in
     elim c.if-last-value.branch [

@@ -2,7 +2,7 @@ use Rattle.std.proofs.Common.{◌≡◌, length, arith, refl, ◌∙◌}
 use Rattle.std.proofs.lemmas.Nat.{le-div}
 use Rattle.mage_place.specs.declared.pool.Page.{Page}
 use Rattle.mage_place.proofs.Changed.{Changed, Changed-push, ArePages-changed, open_pages-changed}
-use Rattle.mage_place.proofs.Given.{IsPage-fresh, taken_on-fresh, is_open-past, taken-past, TakesPlace-changed}
+use Rattle.mage_place.proofs.Given.{IsPage-fresh, is_taken_on-fresh, is_open-past, is_taken-past, TakesPlace-changed}
 use Rattle.mage_place.proofs.pools.add.Goals as goal
 use Rattle.mage_place.proofs.pools.add.Goals.{In_ok-push}
 
@@ -32,4 +32,4 @@ returns-clause-taken d =
     let pool = c.args.pool.now in let n = length pool.pages.items in
     rw d.relist.ensures.pages (TakesPlace-changed pool.pages.items c.push.new.self.items n (fresh c) (changed c) pool.wires c.args.class 0
     (le-div 1 pool.wires c.args.class c.requires.class.0 (omega (arith, c.requires.class, c.requires.wires))) refl (λ h. absurd (omega arith))
-    (λ j. taken_on-fresh c.args.class c.new.result j c.new.ensures.empty ∙ rw (taken-past pool.pages.items n j (omega arith)) refl))
+    (λ j. is_taken_on-fresh c.args.class c.new.result j c.new.ensures.empty ∙ rw (is_taken-past pool.pages.items n j (omega arith)) refl))

@@ -5,7 +5,7 @@ use Rattle.std.proofs.Math.Nat.{mul-div_cancel}
 use Rattle.mage_place.specs.Pages.{IsPage}
 use Rattle.mage_place.specs.Pools.{class_at}
 use Rattle.mage_place.proofs.Changed.{Changed-set, ArePages-changed, open_pages-changed}
-use Rattle.mage_place.proofs.Given.{class_at-at, closed-by_class, taken-at, Frees-changed}
+use Rattle.mage_place.proofs.Given.{class_at-at, closed-by_class, is_taken-at, Frees-changed}
 use Rattle.mage_place.proofs.pools.free.Goals as goal
 use Rattle.mage_place.proofs.pools.free.Goals.{After-index_mut-page}
 
@@ -51,4 +51,4 @@ returns-clause-freed c =
     let divisor : c.from-2.result ≡ p.class = c.from-2.ensures ∙ sym c.in_ok-free_place.ensures.class in
     let number : c.from.result / c.from-2.result ≡ k = rw (divisor, c.from.ensures, offset) (mul-div_cancel k pos) in
     rw c.relist.ensures.pages (on_ok c.relist.result (Frees-changed old (set old r p) r p changed place k refl (length-set old r p) class pos offset
-    (λ j. rw (taken-at old r j was (page_is start), ← number) (c.in_ok-free_place.ensures.taken j))))
+    (λ j. rw (is_taken-at old r j was (page_is start), ← number) (c.in_ok-free_place.ensures.taken j))))

@@ -2,7 +2,7 @@ use Rattle.std.proofs.Common.{◌≡◌, ◌<◌, ◌*◌, ◌/◌, ℕ, Some, l
 use Rattle.std.proofs.lemmas.List.{length-set}
 use Rattle.std.proofs.lemmas.Option.{slice_get_read}
 use Rattle.mage_place.proofs.Changed.{Changed-set, ArePages-changed, open_pages-changed}
-use Rattle.mage_place.proofs.Given.{class_at-at, class-of_open, closed-by_class, taken-at, is_open-within, place_below, TakesPlace-changed}
+use Rattle.mage_place.proofs.Given.{class_at-at, class-of_open, closed-by_class, is_taken-at, is_open-within, place_below, TakesPlace-changed}
 use Rattle.mage_place.proofs.pools.reuse.Goals as goal
 use Rattle.mage_place.proofs.pools.reuse.Goals.{After-take_lowest-number}
 
@@ -48,7 +48,7 @@ returns-clause-given d =
     let old = pool.pages.items in
     let changed = Changed-set old r p (within c) in
     let was = c.index_mut.result.now in
-    let shown = λ (j : ℕ). taken-at old r j was (page_is c) in
+    let shown = λ (j : ℕ). is_taken-at old r j was (page_is c) in
     rw d.relist.ensures.pages (
       k,
       refl,

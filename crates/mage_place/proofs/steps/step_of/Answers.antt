@@ -1,6 +1,6 @@
 use Rattle.std.proofs.Common.{◌≡◌, ◌<◌, ◌↔◌, ℕ, length, get_or, take, Contains, arith, ap, ◌∙◌, subst}
 use Rattle.mage_instr.specs.Trace.{pages_of}
-use Rattle.mage_place.specs.Live.{touched_by}
+use Rattle.mage_place.specs.Live.{values_touched_by}
 use Rattle.mage_place.specs.Places.{place_of}
 use Rattle.mage_place.proofs.SoundFacts.{in_front}
 use Rattle.mage_place.proofs.Stepped.{needs_more}
@@ -10,7 +10,7 @@ pub bounds-places-touched : goal.bounds-places-touched
 bounds-places-touched c =
     let touched = c.touched_values-touched.result in
     let inside : c.loop-k.k < length touched.values = omega (arith, c.touched_values-touched.ensures.four) in
-    let among : Contains (touched_by c.args.instr c.args.t) (get_or touched.values c.loop-k.k 0) = rw (← c.touched_values-touched.ensures.values) (in_front touched.values touched.count c.loop-k.k (omega arith) inside) in
+    let among : Contains (values_touched_by c.args.instr c.args.t) (get_or touched.values c.loop-k.k 0) = rw (← c.touched_values-touched.ensures.values) (in_front touched.values touched.count c.loop-k.k (omega arith) inside) in
     c.requires _ among
 
 pub loop-k-preserved : goal.loop-k-preserved
@@ -29,7 +29,7 @@ pub returns : goal.returns
 returns c =
     let values = c.touched_values-touched.result.values in
     let whole : c.loop-k.k ≡ c.touched_values-touched.result.count = omega arith in
-    let all : take c.loop-k.k values ≡ touched_by c.args.instr c.args.t = ap (λ n. take n values) whole ∙ c.touched_values-touched.ensures.values in
+    let all : take c.loop-k.k values ≡ values_touched_by c.args.instr c.args.t = ap (λ n. take n values) whole ∙ c.touched_values-touched.ensures.values in
     record {
       ok = c.loop-k.invariant.ok;
       pages = subst (λ xs. (q : ℕ) → Contains (pages_of c.loop-k.step) q ↔ ((v : ℕ) × Contains xs v × ((place_of c.args.places.now v).page ≡ q))) all c.loop-k.invariant.pages;
