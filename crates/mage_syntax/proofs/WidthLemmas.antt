@@ -5,7 +5,7 @@ use Rattle.mage_names.specs.Names.{Meaning}
 use Rattle.mage_syntax.specs.declared.tree.Stmt.{Stmt}
 use Rattle.mage_syntax.specs.declared.sums.fault.FirstFault.{FirstFault}
 use Rattle.mage_syntax.specs.declared.sums.fault.FirstFault.TheVariants as faults
-use Rattle.mage_syntax.specs.Reading.{Fails}
+use Rattle.mage_syntax.specs.Answer.{Fails}
 use Rattle.mage_syntax.specs.Widths.{widths_after, widths_after_all}
 
 abbrev then_all : List Stmt → Option (Meaning ℕ) → Option (Meaning ℕ)

@@ -1,5 +1,13 @@
-pub mod Tokens
-pub mod Sums
-pub mod Reading
+pub mod Classes
+pub mod Reads
+pub mod Grammar
+pub mod Sources
+pub mod Laws
+pub mod Constants
+pub mod Expressions
+pub mod Statements
+pub mod Faults
+pub mod Words
 pub mod Widths
+pub mod Answer
 pub mod First

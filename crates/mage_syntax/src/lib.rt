@@ -1,8 +1,19 @@
-//! The tree of a source, and the reader of the part of the language that is built.
+//! The tree of a source, and the reader of the language.
 #![tactic(auto)]
 
+mod laws;
+mod parser;
+mod source;
 mod sums;
 mod tree;
+mod words;
 
-pub use sums::{FirstFault, bytes_of, first, width_of_type};
-pub use tree::{ConstExpr, Expr, Item, Source, Stmt};
+pub use laws::{one_tree, stops_at_first_wrong};
+pub use parser::parse;
+pub use source::Source;
+pub use sums::{FirstFault, first};
+pub use tree::{ConstExpr, Expr, Item, Stmt};
+pub use words::{bytes_of, width_of_type};
+
+#[cfg(test)]
+mod tests;

@@ -4,13 +4,6 @@
 use mage_lex::Token;
 use sqlite_items::{Boxed, Items};
 
-/// A source: the number of workers where it is given, and the statements.
-#[derive(Debug, Drop)]
-pub struct Source {
-    pub workers: Option<Token>,
-    pub body: Items<Stmt>,
-}
-
 /// A place: a name, or an item of an array.
 #[derive(Debug, Drop)]
 pub struct Item {

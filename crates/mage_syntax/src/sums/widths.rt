@@ -1,37 +1,34 @@
 // The widths of names and sums, and the faults that a statement may have.
-ghost use Rattle.std.specs.Prelude.{◌≡◌, ◌≤◌, None, IfSome};
+ghost use Rattle.std.specs.Prelude.{◌≡◌, None};
 ghost use Rattle.mage_names.specs.Names.{Meaning, meaning_of};
-ghost use Rattle.mage_syntax.specs.Widths.{bytes_of, width_of_type, width_of_operand, is_width, all_of_width, width_of_sum, with_width, widths_after, widths_after_all};
-ghost use Rattle.mage_syntax.specs.Reading.{Gives};
+ghost use Rattle.mage_syntax.specs.Classes.{is_symbol};
+ghost use Rattle.mage_syntax.specs.Widths.{name_width, width_of_operand, is_width, all_of_width, width_of_sum, input_width, with_width, widths_after, widths_after_all};
+ghost use Rattle.mage_syntax.specs.Answer.{Gives};
 
 use super::FirstFault;
-use crate::{Expr, Stmt};
+use crate::{ConstExpr, Expr, Item, Stmt, bytes_of, width_of_type};
+use mage_lex::symbols::PLUS;
 use mage_lex::{Token, TokenKind};
 use mage_names::Names;
 use std::alloc::Global;
 
-/// The bytes of a word.
-pub fn bytes_of(token: &Token) -> &[u8]
-    ensures { result.now ≡ bytes_of token.now }
+#[tactic(auto, unfolding(crate::specs::Classes::is_symbol))]
+fn is_plus(token: &Token) -> bool
+    ensures { result ≡ is_symbol PLUS token.now }
 {
     match &token.kind {
-        TokenKind::Word(text) => text.bytes(),
-        TokenKind::Number(_) | TokenKind::Symbol(_) => &[],
+        TokenKind::Symbol(row) => *row == PLUS,
+        TokenKind::Number(_) | TokenKind::Word(_) => false,
     }
 }
 
-/// The width of a type, where it is one of `u1` to `u64`, so spelled.
-pub fn width_of_type(word: &[u8]) -> Option<u8>
-    ensures width { result ≡ width_of_type word.now }
-    ensures in_range { IfSome result (λ width. (1 ≤ width) × (width ≤ 64)) }
+// The width of a name, where no index stands behind it.
+fn width_of_name(names: &Names<u8>, item: &Item) -> Option<u8>
+    ensures { result ≡ name_width (meaning_of names.now) item.now.name item.now.index }
 {
-    match word {
-        [b'u', ones @ b'1'..=b'9'] => Some(*ones - b'0'),
-        [b'u', tens @ b'1'..=b'9', ones @ b'0'..=b'9'] => {
-            let width = 10 * (*tens - b'0') + (*ones - b'0');
-            (width <= 64).then_some(width)
-        }
-        _ => None,
+    match item.index {
+        None => names.get(bytes_of(&item.name)),
+        Some(_) => None,
     }
 }
 
@@ -39,7 +36,7 @@ fn width_of_operand(names: &Names<u8>, operand: &Expr) -> Option<u8>
     ensures { result ≡ width_of_operand (meaning_of names.now) operand.now }
 {
     match operand {
-        Expr::Item(item) => names.get(bytes_of(&item.name)),
+        Expr::Item(item) => width_of_name(names, item),
         _ => None,
     }
 }
@@ -47,9 +44,7 @@ fn width_of_operand(names: &Names<u8>, operand: &Expr) -> Option<u8>
 fn all_of_width(names: &Names<u8>, width: u8, terms: &[(Token, Expr)]) -> bool
     ensures { result ≡ all_of_width (meaning_of names.now) width terms.now }
 {
-    terms
-        .iter()
-        .all(|term| is_width(width, width_of_operand(names, &term.1)))
+    terms.iter().all(|term| is_plus(&term.0) && is_width(width, width_of_operand(names, &term.1)))
 }
 
 fn is_width(width: u8, found: Option<u8>) -> bool
@@ -66,12 +61,22 @@ fn width_of_sum(names: &Names<u8>, value: &Expr) -> Option<u8>
     ensures { result ≡ width_of_sum (meaning_of names.now) value.now }
 {
     match value {
-        Expr::Item(item) => names.get(bytes_of(&item.name)),
+        Expr::Item(item) => width_of_name(names, item),
         Expr::Chain { first, rest } => {
             let width = width_of_operand(names, first.get())?;
             all_of_width(names, width, rest.as_slice()).then_some(width)
         }
         _ => None,
+    }
+}
+
+// The width of an input, where no length stands behind its type.
+fn width_of_input(ty: &Token, length: &Option<(Token, ConstExpr)>) -> Option<u8>
+    ensures { result ≡ input_width ty.now length.now }
+{
+    match length {
+        None => width_of_type(bytes_of(ty)),
+        Some(_) => None,
     }
 }
 
@@ -98,8 +103,13 @@ fn check_statement<'a>(names: &mut Names<'a, u8>, statement: &'a Stmt) -> Result
     ensures { Gives (λ _. meaning_of names.new) result (widths_after (meaning_of names.old) statement.now) }
 {
     match statement {
-        Stmt::Input { name, ty, .. } => {
-            let width = width_of_type(bytes_of(ty));
+        Stmt::Input {
+            name,
+            ty,
+            length,
+            ..
+        } => {
+            let width = width_of_input(ty, length);
             declare(names, name, width)
         }
         Stmt::Let { name, value, .. } => {

@@ -1,0 +1,23 @@
+-- The grammar of a source. `IsSource room workers body tokens` says that the tokens are those of a source, with the
+-- number of workers where it is given, and that no more than `room` brackets and signs are open at any of them.
+use Rattle.std.specs.Prelude.{ℕ, List, [], ◌∷◌, Option, None, Some}
+use Rattle.mage_lex.specs.declared.token.Token.{Token}
+use Rattle.mage_syntax.specs.declared.parser.class.Class.TheVariants as class
+use Rattle.mage_syntax.specs.declared.parser.class.Keyword.TheVariants as keyword
+use Rattle.mage_syntax.specs.declared.tree.Stmt.{Stmt}
+use Rattle.mage_syntax.specs.Grammar.{Is, AreStmts}
+
+pub data IsSource : ℕ → Option Token → List Stmt → List Token → Type 0 where
+  counted : {room : ℕ} {word number end : Token} {body : List Stmt} {rest : List Token} →
+      Is (class.Word keyword.Workers) word → Is class.Number number → Is (class.Symbol 4) end → AreStmts room body rest [] →
+      IsSource room (Some number) body (word ∷ number ∷ end ∷ rest)
+  uncounted : {room : ℕ} {body : List Stmt} {tokens : List Token} → AreStmts room body tokens [] → IsSource room None body tokens
+
+-- the parts of a source
+pub record Tree : Type 0 where
+  pub workers : Option Token
+  pub body : List Stmt
+
+-- the parts are the tree of some tokens, with at most 100 brackets and signs open at once
+abbrev pub HasTokens : Option Token → List Stmt → Type 0
+HasTokens workers body = (tokens : List Token) × IsSource 100 workers body tokens

@@ -1,0 +1,15 @@
+// What holds of the grammar, and of where reading stops.
+ghost use Rattle.std.specs.Prelude.{List};
+ghost use Rattle.mage_lex.specs.declared.token.Token.{Token as TokenValue};
+ghost use Rattle.mage_syntax.specs.Laws.{HasOneTree, StopsAtFirstWrong};
+
+/// At most one tree belongs to a list of tokens.
+pub fn one_tree()
+    ensures { (tokens : List TokenValue) → HasOneTree tokens }
+{}
+
+/// Where `parse` answers `Syntax`, what stands before is the front of a source, and no source goes on with the token
+/// there, or ends there where no token is left.
+pub fn stops_at_first_wrong()
+    ensures { (tokens : List TokenValue) → StopsAtFirstWrong tokens }
+{}
