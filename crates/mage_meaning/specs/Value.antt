@@ -1,15 +1,15 @@
 -- The direct meaning of a source: an environment from names to numbers, statements in order.
 use Rattle.std.specs.Prelude.{ℕ, Bool, true, false, List, [], ◌∷◌, ◌++◌, None, unwrap_or, drop, slice_index, codes, if◌then◌else◌}
 use Rattle.std.specs.List.{flat_map}
+use Rattle.std.specs.Str.{bytes_eq}
 use Rattle.mage_names.specs.Names.{Meaning, declared}
 use Rattle.mage_lex.specs.declared.token.Token.{Token}
-use Rattle.mage_syntax.specs.declared.tree.Source.{Source}
+use Rattle.mage_syntax.specs.Sources.{Tree}
 use Rattle.mage_syntax.specs.declared.tree.Stmt.{Stmt, out-Stmt}
 use Rattle.mage_syntax.specs.declared.tree.Stmt.TheOpen.{Stmt-F}
 use Rattle.mage_syntax.specs.declared.tree.Expr.{Expr, out-Expr}
 use Rattle.mage_syntax.specs.declared.tree.Expr.TheOpen.{Expr-F}
-use Rattle.mage_syntax.specs.Tokens.{is_word}
-use Rattle.mage_syntax.specs.Widths.{bytes_of, width_of_type}
+use Rattle.mage_syntax.specs.Words.{bytes_of, width_of_type}
 use Rattle.mage_meaning.specs.declared.party.Party.{Party}
 use Rattle.mage_meaning.specs.declared.party.Party.TheVariants as party
 use Rattle.mage_meaning.specs.Wide.{Wide, plus}
@@ -53,7 +53,7 @@ sum_of names value = sum_in names (out-Expr value)
 
 -- the party whose keyword this is
 abbrev pub party_of : Token → Party
-party_of token = if is_word (codes "evaluator") token then party.Evaluator else party.Garbler
+party_of token = if bytes_eq (bytes_of token) (codes "evaluator") then party.Evaluator else party.Garbler
 
 abbrev pub width_or_one : Token → ℕ
 width_or_one ty = unwrap_or (width_of_type (bytes_of ty)) 1
@@ -108,7 +108,7 @@ opening given = record {
 }
 
 -- each worker's outputs; there is one worker
-abbrev pub value_of : Source → Given → List (List ℕ)
+abbrev pub value_of : Tree → Given → List (List ℕ)
 value_of source given = (moment_after_all (opening given) source.body).outputs ∷ []
 
 abbrev pub is_party : Party → Party → Bool
@@ -122,5 +122,5 @@ widths_in whose (Stmt-F.Input word party name ty length) = if is_party whose (pa
 widths_in whose other = []
 
 -- the widths of a party's input values, in order, for each worker; there is one worker
-abbrev pub input_widths_of : Party → Source → List (List ℕ)
+abbrev pub input_widths_of : Party → Tree → List (List ℕ)
 input_widths_of whose source = flat_map (λ statement. widths_in whose (out-Stmt statement)) source.body ∷ []

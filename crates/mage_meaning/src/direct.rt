@@ -155,7 +155,7 @@ pub fn oracle(alloc: Global, source: &Source, inputs: &Inputs) -> Result<Vec<Vec
 {
     let garbler = first_list(inputs.garbler.as_slice());
     let evaluator = first_list(inputs.evaluator.as_slice());
-    let run = run_all(alloc, source.body.as_slice(), garbler, evaluator)?;
+    let run = run_all(alloc, source.body(), garbler, evaluator)?;
     let mut outputs = Vec::new(alloc);
     outputs.push(run.outputs)?;
     Ok(outputs)

@@ -6,7 +6,7 @@ ghost use Rattle.mage_meaning.specs.Value.{party_of, width_or_one, is_party, wid
 
 use crate::Party;
 use mage_base::Memory;
-use mage_lex::{Token, TokenKind};
+use mage_lex::Token;
 use mage_syntax::{Source, Stmt, bytes_of, width_of_type};
 use std::alloc::Global;
 
@@ -14,9 +14,10 @@ use std::alloc::Global;
 pub fn party_of(token: &Token) -> Party
     ensures { result ≡ party_of token.now }
 {
-    match &token.kind {
-        TokenKind::Word(text) if text.bytes() == b"evaluator".as_slice() => Party::Evaluator,
-        _ => Party::Garbler,
+    if bytes_of(token) == b"evaluator".as_slice() {
+        Party::Evaluator
+    } else {
+        Party::Garbler
     }
 }
 
@@ -33,13 +34,22 @@ pub fn input_widths(alloc: Global, source: &Source, party: Party) -> Result<Vec<
     ensures widths { IfOk result (λ widths. map (λ own. own.items) widths.items ≡ input_widths_of party source.now) }
     ensures in_range { IfOk result (λ widths. All (λ own. All (λ width. (1 ≤ width) × (width ≤ 64)) own.items) widths.items) }
 {
-    let mut own = Vec::new(alloc);
-    for statement in source.body.as_slice() {
-        add_width(&mut own, statement, party)?;
-    }
+    let own = widths_of(alloc, source.body(), party)?;
     let mut widths = Vec::new(alloc);
     widths.push(own)?;
     Ok(widths)
+}
+
+// The widths of a party's input values among these statements.
+fn widths_of(alloc: Global, body: &[Stmt], party: Party) -> Result<Vec<u8>, Memory>
+    ensures widths { IfOk result (λ own. own.items ≡ flat_map (λ statement. widths_in party (out-Stmt statement)) body.now) }
+    ensures in_range { IfOk result (λ own. All (λ width. (1 ≤ width) × (width ≤ 64)) own.items) }
+{
+    let mut own = Vec::new(alloc);
+    for statement in body {
+        add_width(&mut own, statement, party)?;
+    }
+    Ok(own)
 }
 
 fn add_width(widths: &mut Vec<u8>, statement: &Stmt, whose: Party) -> Result<(), Memory>
