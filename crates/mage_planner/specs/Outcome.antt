@@ -1,7 +1,7 @@
 -- What a command comes to, in the order of work.
 use Rattle.std.specs.Prelude.{ℕ, List, length, Option, Some, None, Result, Ok, Err, ok_or, nat_lt, if◌then◌else◌}
 use Rattle.mage_base.specs.Desk.{Files}
-use Rattle.mage_syntax.specs.declared.tree.Source.{Source}
+use Rattle.mage_syntax.specs.Sources.{Tree}
 use Rattle.mage_syntax.specs.First.{first_of}
 use Rattle.mage_meaning.specs.declared.party.Party.{Party}
 use Rattle.mage_meaning.specs.declared.party.Party.TheVariants as party
@@ -57,7 +57,7 @@ bytes_or too_long Long = Err too_long
 bytes_or too_long (Held bytes) = Ok bytes
 
 -- the tree of a source's file
-unfoldable pub source_of : File → Result Source Status
+unfoldable pub source_of : File → Result Tree Status
 source_of file = do
   text ← bytes_or status.Language file
   ok_or (first_of text) status.Language
@@ -67,13 +67,13 @@ inputs_or_fault (Ok numbers) = Ok numbers
 inputs_or_fault (Err line) = Err status.InputText
 
 -- the numbers of a party's input text
-unfoldable pub numbers_of : Party → Source → File → Result (List (List ℕ)) Status
+unfoldable pub numbers_of : Party → Tree → File → Result (List (List ℕ)) Status
 numbers_of whose source file = do
   text ← bytes_or status.InputText file
   inputs_or_fault (inputs_of text (input_widths_of whose source))
 
 -- what is said of the outputs
-abbrev pub said_of : Source → Given → List ℕ
+abbrev pub said_of : Tree → Given → List ℕ
 said_of source given = text_of (value_of source given)
 
 -- the files of a command, where they are told
