@@ -83,7 +83,7 @@ text_kind test (kinds.Word text) P p e = p text e
 text_kind test (kinds.Number value) P p e = absurd (cc)
 text_kind test (kinds.Symbol other) P p e = absurd (cc)
 
-each_kind : (c : Class) (kind : TokenKind) (P : TokenKind → Type 0) → Kinds c P → fits_kind c kind ≡ true → P kind
+pub each_kind : (c : Class) (kind : TokenKind) (P : TokenKind → Type 0) → Kinds c P → fits_kind c kind ≡ true → P kind
 each_kind (class.Word word) kind P p e = word_kind word kind P p e
 each_kind (class.Symbol row) kind P p e = symbol_kind row kind P p e
 each_kind class.Number kind P p e = number_kind kind P p e

@@ -1,5 +1,5 @@
 -- Where reading finds a wrong token, it is the first with which no source goes on.
-use Rattle.std.proofs.Common.{◌≡◌, ℕ, Bool, true, false, List, [], ◌∷◌, ◌++◌, length, cond, refl, ap, sym, ◌∙◌, append_assoc, arith}
+use Rattle.std.proofs.Common.{◌≡◌, ℕ, ◌<◌, Bool, true, false, List, [], ◌∷◌, ◌++◌, length, cond, refl, ap, sym, ◌∙◌, append_assoc, arith}
 use Rattle.std.specs.Prelude.{Option, None, Some, Result, Ok, Err}
 use Rattle.mage_lex.specs.declared.token.Token.{Token}
 use Rattle.mage_syntax.specs.declared.parser.stop.Stop.{Stop}
@@ -7,11 +7,11 @@ use Rattle.mage_syntax.specs.declared.parser.stop.Stop.TheVariants as stops
 use Rattle.mage_syntax.specs.declared.tree.Stmt.{Stmt}
 use Rattle.mage_syntax.specs.Sources.{IsSource}
 use Rattle.mage_syntax.specs.Statements.{source_at}
-use Rattle.mage_syntax.specs.Laws.{Breaks, IsFirstWrong}
+use Rattle.mage_syntax.specs.Laws.{IsFront, Breaks, IsFirstWrong}
 use Rattle.mage_syntax.proofs.SoundStatements.{source_sound}
 use Rattle.mage_syntax.proofs.FullStatements.{source_full}
 use Rattle.mage_syntax.proofs.Machine.{Want, workers, feed, ran, ends, run}
-use Rattle.mage_syntax.proofs.Follow.{Follows}
+use Rattle.mage_syntax.proofs.Follow.{GoesOn, Follows}
 use Rattle.mage_syntax.proofs.FollowStatements.{source_follows}
 use Rattle.mage_syntax.proofs.Room.{Deep, d_source}
 use Rattle.mage_syntax.proofs.Viable.{endings, can_end}
@@ -91,3 +91,15 @@ first_wrong depth tokens left e =
     let s = stopped tokens (workers ∷ []) left h in
     let a = accepted (s.front ++ endings s.here) (s.along (endings s.here) ∙ can_end s.here) in
     (s.front, s.back, s.whole, s.rest, (endings s.here, a.0, a.1, a.2, a.3), breaks s.front s.back s.here s.along s.stuck)
+
+-- what the machine takes begins a source
+pub reached : (tokens : List Token) (left : ℕ) → 0 < left → GoesOn (run tokens (workers ∷ [])) left → (front : List Token) × (back : List Token) × (tokens ≡ front ++ back) × (length back < left) × IsFront front
+reached tokens left some goes = go (run tokens (workers ∷ [])) refl goes
+  where
+    go : (ran : Result (Unit {0}) ℕ) → run tokens (workers ∷ []) ≡ ran → GoesOn ran left → (front : List Token) × (back : List Token) × (tokens ≡ front ++ back) × (length back < left) × IsFront front
+    go (Ok x) e g =
+        let a = accepted tokens e in (tokens, [], sym (no_more tokens), some, ([], a.0, a.1, a.2, (rw (no_more tokens) a.3)))
+    go (Err other) e g =
+        let s = stopped tokens (workers ∷ []) other e in
+        let a = accepted (s.front ++ endings s.here) (s.along (endings s.here) ∙ can_end s.here) in
+        (s.front, s.back, s.whole, omega (arith, s.rest, g), (endings s.here, a.0, a.1, a.2, a.3))

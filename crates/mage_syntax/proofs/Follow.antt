@@ -1,18 +1,44 @@
 -- The machine follows a reader: where the reader goes on, so does the machine, and where it finds a wrong token, so does the machine.
-use Rattle.std.proofs.Common.{◌≡◌, Bool, true, false, List, [], ◌∷◌, ◌++◌, length, cond, refl, ◌∙◌}
-use Rattle.std.specs.Prelude.{Result, Ok, Err}
+use Rattle.std.proofs.Common.{◌≡◌, ℕ, suc, ◌<◌, ◌≤◌, Bool, true, false, List, [], ◌∷◌, ◌++◌, length, cond, refl, ap, ◌∙◌, arith}
+use Rattle.std.specs.Prelude.{Option, None, Some, Result, Ok, Err}
 use Rattle.mage_lex.specs.declared.token.Token.{Token}
 use Rattle.mage_syntax.specs.declared.parser.class.Class.{Class}
 use Rattle.mage_syntax.specs.declared.parser.stop.Stop.{Stop}
 use Rattle.mage_syntax.specs.declared.parser.stop.Stop.TheVariants as stops
 use Rattle.mage_syntax.specs.Classes.{fits}
 use Rattle.mage_syntax.specs.Reads.{◌>>=◌, begins, one, after_one}
-use Rattle.mage_syntax.proofs.Machine.{Want, fixed, Mark, mark_class, taken, refused, may_end, step, run, run_taken, run_refused, run_short}
+use Rattle.mage_syntax.proofs.Machine.{Want, fixed, Mark, mark_class, taken, refused, may_end, step, feed, ran, ends, run, run_taken, run_refused, run_short}
+
+-- the machine takes more tokens than up to where so many are left
+abbrev pub GoesOn : Result (Unit {0}) ℕ → ℕ → Type 0
+GoesOn (Ok x) left = Unit {0}
+GoesOn (Err other) left = other < left
+
+goes_more : (outcome : Result (Unit {0}) ℕ) (n m : ℕ) → n ≤ m → GoesOn outcome n → GoesOn outcome m
+goes_more (Ok x) n m h g = tt
+goes_more (Err other) n m h g = omega (arith, g)
+
+run_end_goes : (b : Bool) → GoesOn (cond b (Ok tt) (Err 0)) 1
+run_end_goes true = tt
+run_end_goes false = omega arith
+
+run_within : (tokens : List Token) (wants : List Want) → GoesOn (run tokens wants) (suc (length tokens))
+unfolding run
+run_within [] wants = run_end_goes (ends wants)
+run_within (token ∷ tokens) wants = go (feed wants token) (λ later. run_within tokens later)
+  where
+    go : (next : Option (List Want)) → ((later : List Want) → GoesOn (run tokens later) (suc (length tokens))) → GoesOn (ran next (run tokens) (length (token ∷ tokens))) (suc (length (token ∷ tokens)))
+    go None within = omega arith
+    go (Some later) within = goes_more (run tokens later) (suc (length tokens)) (suc (length (token ∷ tokens))) (omega arith) (within later)
+
+-- behind a token that was taken the machine goes on
+pub goes_on : (tokens : List Token) (token : Token) (others : List Token) (wants : List Want) → tokens ≡ token ∷ others → GoesOn (run others wants) (length tokens)
+goes_on tokens token others wants e = goes_more (run others wants) (suc (length others)) (length tokens) (let k = ap length e in omega (arith, k)) (run_within others wants)
 
 -- what the machine does from `wants` on these tokens is what it does from `later` where the reader ends
 abbrev pub Stops : List Token → List Want → Stop → Type 0
 Stops tokens wants (stops.Syntax left) = run tokens wants ≡ Err left
-Stops tokens wants (stops.TooDeep left) = Unit {0}
+Stops tokens wants (stops.TooDeep left) = GoesOn (run tokens wants) left
 Stops tokens wants stops.Memory = Unit {0}
 
 abbrev pub Follows : {A : Type 0} → List Token → List Want → Result A Stop → (A → List Token) → List Want → Type 0
@@ -28,7 +54,7 @@ itself tokens = tokens
 
 stops_along : (tokens next : List Token) (wants later : List Want) (stop : Stop) → run tokens wants ≡ run next later → Stops next later stop → Stops tokens wants stop
 stops_along tokens next wants later (stops.Syntax left) e h = e ∙ h
-stops_along tokens next wants later (stops.TooDeep left) e h = tt
+stops_along tokens next wants later (stops.TooDeep left) e h = rw e h
 stops_along tokens next wants later stops.Memory e h = tt
 
 -- the machine moves, and then follows

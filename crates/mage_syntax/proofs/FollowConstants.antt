@@ -11,7 +11,7 @@ use Rattle.mage_syntax.specs.Constants.{const_atom, const_unary, const_chain, co
 use Rattle.mage_syntax.proofs.Sound.{const_sound}
 use Rattle.mage_syntax.proofs.FullConstants.{const_shrinks}
 use Rattle.mage_syntax.proofs.Machine.{Want, constant, constant_tail, fixed, close_paren, taken, passed, refused, below, may_end, then_also, started, const_start, step, feed, moved, run, run_passed, run_end, run_short}
-use Rattle.mage_syntax.proofs.Follow.{Follows, after, along, read_on, one_taken, one_or_refused, after_fixed, decides}
+use Rattle.mage_syntax.proofs.Follow.{Follows, goes_on, after, along, read_on, one_taken, one_or_refused, after_fixed, decides}
 
 -- what `deeper` reads behind the first token
 abbrev FollowsIn : (ℕ → List Token → Read ConstExpr) → Type 0
@@ -167,7 +167,7 @@ from_follows room deep (suc (suc level)) tokens rest =
 
 pub const_in_follows : (room : ℕ) → FollowsIn (const_in room)
 unfolding const_in
-const_in_follows zero level tokens token others e rest = tt
+const_in_follows zero level tokens token others e rest = goes_on tokens token others (constant level ∷ rest) e
 const_in_follows (suc room) level tokens token others e rest = rw e (from_follows room (const_in_follows room) level others rest)
 
 pub const_follows : (room level : ℕ) (tokens : List Token) (rest : List Want) → Follows tokens (constant level ∷ rest) (const_at room level tokens) after rest

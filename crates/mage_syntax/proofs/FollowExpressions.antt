@@ -17,7 +17,7 @@ use Rattle.mage_syntax.proofs.SoundExpressions.{expr_sound}
 use Rattle.mage_syntax.proofs.FullConstants.{const_shrinks}
 use Rattle.mage_syntax.proofs.FullExpressions.{expr_shrinks}
 use Rattle.mage_syntax.proofs.Machine.{Want, constant, expression, expression_tail, index, bracketed, fixed, open_paren, close_paren, close_bracket, comma, a_type, taken, passed, refused, below, then_also, started, expr_start, tail_of, step, feed, moved, run, run_taken, run_end, run_short}
-use Rattle.mage_syntax.proofs.Follow.{Follows, after, along, read_on, one_taken, one_or_refused, one_fixed, after_fixed, decides}
+use Rattle.mage_syntax.proofs.Follow.{Follows, goes_on, after, along, read_on, one_taken, one_or_refused, one_fixed, after_fixed, decides}
 use Rattle.mage_syntax.proofs.FollowConstants.{run_lets, const_in_follows, const_follows}
 
 index_taken : (token : Token) → fits (class.Symbol 9) token ≡ true → step index token ≡ taken (constant 3 ∷ fixed close_bracket ∷ [])
@@ -334,7 +334,7 @@ from_follows room deep (suc level) h tokens rest =
 
 pub expr_in_follows : (room : ℕ) → FollowsIn (expr_in room)
 unfolding expr_in
-expr_in_follows zero level h tokens token others e rest = tt
+expr_in_follows zero level h tokens token others e rest = goes_on tokens token others (expression level ∷ rest) e
 expr_in_follows (suc room) level h tokens token others e rest = rw e (from_follows room (expr_in_follows room) level h others rest)
 
 pub expr_follows : (room level : ℕ) → level < 8 → (tokens : List Token) (rest : List Want) → Follows tokens (expression level ∷ rest) (expr_at room level tokens) after rest

@@ -18,7 +18,7 @@ use Rattle.mage_syntax.proofs.Apart.{apart}
 use Rattle.mage_syntax.proofs.SoundStatements.{stmt_at_sound}
 use Rattle.mage_syntax.proofs.FullStatements.{stmt_shrinks}
 use Rattle.mage_syntax.proofs.Machine.{Want, constant, expression, index, bracketed, block, block_rest, otherwise, workers, fixed, semicolon, colon, assign, dots, a_number, a_name, a_type, a_party, in_word, comparing, taken, passed, refused, stmt_start, step, feed, run, run_taken, run_refused, run_short}
-use Rattle.mage_syntax.proofs.Follow.{Follows, after, along, read_on, after_taken, after_or_refused, one_fixed, after_fixed, decides}
+use Rattle.mage_syntax.proofs.Follow.{Follows, goes_on, after, along, read_on, after_taken, after_or_refused, one_fixed, after_fixed, decides}
 use Rattle.mage_syntax.proofs.FollowConstants.{run_lets, const_follows}
 use Rattle.mage_syntax.proofs.FollowExpressions.{bracketed_follows, index_follows, expr_follows}
 
@@ -342,7 +342,7 @@ in_over (suc room) tokens x e =
 
 pub stmts_in_follows : (room : ℕ) → FollowsIn (stmts_in room)
 unfolding stmts_in
-stmts_in_follows zero tokens token others e rest = tt
+stmts_in_follows zero tokens token others e rest = goes_on tokens token others (block_rest ∷ rest) e
 stmts_in_follows (suc room) tokens token others e rest =
     rw e (stmts_from_follows (stmt_from (stmts_in room) room) (block_rest ∷ rest)
     (λ more o. stmt_from_follows (stmts_in room) (stmts_in_follows room) (in_over room) room (block_rest ∷ rest) (rest_takes rest) more o) (length others) others)

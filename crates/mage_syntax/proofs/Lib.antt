@@ -21,3 +21,11 @@ pub mod Viable
 pub mod FirstWrong
 pub mod WidthLemmas
 pub mod FirstLemmas
+pub mod Opened
+pub mod Making
+pub mod Spelled
+pub mod Printing
+pub mod Nested
+pub mod NestedExpressions
+pub mod NestedStatements
+pub mod OneFault

@@ -11,3 +11,7 @@ pub mod Words
 pub mod Widths
 pub mod Answer
 pub mod First
+pub mod Printed
+pub mod Made
+pub mod Depth
+pub mod FirstFault

@@ -1,7 +1,10 @@
 -- The grammar of a source. `IsSource room workers body tokens` says that the tokens are those of a source, with the
 -- number of workers where it is given, and that no more than `room` brackets and signs are open at any of them.
-use Rattle.std.specs.Prelude.{ℕ, List, [], ◌∷◌, Option, None, Some}
+use Rattle.std.specs.Prelude.{ℕ, ◌<◌, ◌^◌, List, [], ◌∷◌, map, All, Option, None, Some}
+use Rattle.mage_lex.specs.Laws.{IsWord}
 use Rattle.mage_lex.specs.declared.token.Token.{Token}
+use Rattle.mage_lex.specs.declared.token.TokenKind.{TokenKind}
+use Rattle.mage_lex.specs.declared.token.TokenKind.TheVariants as kinds
 use Rattle.mage_syntax.specs.declared.parser.class.Class.TheVariants as class
 use Rattle.mage_syntax.specs.declared.parser.class.Keyword.TheVariants as keyword
 use Rattle.mage_syntax.specs.declared.tree.Stmt.{Stmt}
@@ -18,6 +21,16 @@ pub record Tree : Type 0 where
   pub workers : Option Token
   pub body : List Stmt
 
--- the parts are the tree of some tokens, with at most 100 brackets and signs open at once
+-- what the tokens are, but for their places
+abbrev pub kinds_of : List Token → List TokenKind
+kinds_of tokens = map (λ (token : Token). token.kind) tokens
+
+-- a token of a text is of such a kind: a word has letters, a number and a row are in range
+abbrev pub IsTokenKind : TokenKind → Type 0
+IsTokenKind (kinds.Word word) = IsWord word
+IsTokenKind (kinds.Number value) = value < 2 ^ 127
+IsTokenKind (kinds.Symbol row) = row < 24
+
+-- the parts are the tree of some tokens as a text has them, with at most 100 brackets and signs open at once
 abbrev pub HasTokens : Option Token → List Stmt → Type 0
-HasTokens workers body = (tokens : List Token) × IsSource 100 workers body tokens
+HasTokens workers body = (tokens : List Token) × IsSource 100 workers body tokens × All IsTokenKind (kinds_of tokens)

@@ -2,6 +2,7 @@
 ghost use Rattle.std.specs.Prelude.{List};
 ghost use Rattle.mage_lex.specs.declared.token.Token.{Token as TokenValue};
 ghost use Rattle.mage_syntax.specs.Laws.{HasOneTree, StopsAtFirstWrong};
+ghost use Rattle.mage_syntax.specs.FirstFault.{HasDepthOfRoom};
 
 /// At most one tree belongs to a list of tokens.
 pub fn one_tree()
@@ -12,4 +13,10 @@ pub fn one_tree()
 /// there, or ends there where no token is left.
 pub fn stops_at_first_wrong()
     ensures { (tokens : List TokenValue) → StopsAtFirstWrong tokens }
+{}
+
+/// A source within some depth, by the grammar, is a source none of whose tokens is deeper: the grammar counts as open
+/// what the depths of the tokens count.
+pub fn depth_of_room()
+    ensures { (tokens : List TokenValue) → HasDepthOfRoom tokens }
 {}

@@ -1,5 +1,5 @@
 // Reading a whole source.
-ghost use Rattle.std.specs.Prelude.{◌≡◌, ◌≤◌, ◌<◌, ◌^◌, ℕ, List, Option, Result, Ok, length, IfOk, IfErr};
+ghost use Rattle.std.specs.Prelude.{◌≡◌, ◌≤◌, ◌<◌, ◌^◌, ℕ, List, Option, Result, Ok, length, IfOk, IfErr, IsErrAnd};
 ghost use Rattle.mage_lex.specs.Places.{line_after, column_after};
 ghost use Rattle.mage_lex.specs.Tokens.{tokens_of};
 ghost use Rattle.mage_syntax.specs.Reads.{Gives};
@@ -8,6 +8,7 @@ ghost use Rattle.mage_syntax.specs.declared.tree.Stmt.{Stmt as StmtValue};
 ghost use Rattle.mage_syntax.specs.Sources.{IsSource};
 ghost use Rattle.mage_syntax.specs.Statements.{workers_at, at_end, source_at};
 ghost use Rattle.mage_syntax.specs.Faults.{fault_at, last_of, fault_of, parsed, IsFaultOf};
+ghost use Rattle.mage_syntax.specs.FirstFault.{IsFirstFault, IsFirstFaultOf, IsThisOrMemory};
 
 use crate::parser::blocks::stmts_at;
 use crate::parser::class::{Class, Keyword};
@@ -132,6 +133,11 @@ pub fn parse(alloc: Global, text: &[u8], tokens: &[Token]) -> Result<Source, Lan
         IfErr result (λ fault. fault ≡ LangFault.Memory) }
     // Where reading stops, if it does.
     ensures fault { IfErr result (IsFaultOf (parsed text.now tokens.now)) }
+    // That is the first fault of the tokens, by the grammar and their depths alone.
+    ensures first { IfErr result (IsFirstFaultOf text.now tokens.now) }
+    // Where the tokens have a first fault, it is answered, unless memory runs out.
+    ensures refuses { (kind : LangKind) (back : List TokenValue) → IsFirstFault kind tokens.now back →
+        IsErrAnd result (IsThisOrMemory (fault_at kind text.now back)) }
 {
     match source_at(alloc, tokens, MOST_DEPTH) {
         Ok((workers, body)) => Ok(Source::from_parts(workers, body)),
