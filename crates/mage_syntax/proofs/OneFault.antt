@@ -1,5 +1,5 @@
 -- Where reading stops is the first fault of the tokens, and there is only one.
-use Rattle.std.proofs.Common.{◌≡◌, ℕ, suc, ◌+◌, ◌-◌, ◌≤◌, ◌<◌, Bool, true, false, List, [], ◌∷◌, ◌++◌, length, refl, ap, sym, ◌∙◌, append_assoc, length-append, arith}
+use Rattle.std.proofs.Common.{◌≡◌, ◌⊎◌, inl, inr, ℕ, suc, ◌+◌, ◌-◌, ◌≤◌, ◌<◌, Bool, true, false, List, [], ◌∷◌, ◌++◌, length, refl, ap, sym, ◌∙◌, append_assoc, length-append, arith}
 use Rattle.std.specs.Prelude.{Option, Result, Ok, Err, nat_lt}
 use Rattle.std.specs.List.{AllByRecursion}
 use Rattle.std.proofs.lemmas.List.{append-nil}
@@ -18,7 +18,7 @@ use Rattle.mage_syntax.specs.Statements.{source_at}
 use Rattle.mage_syntax.specs.Laws.{IsFront, Breaks}
 use Rattle.mage_syntax.specs.Depth.{Nesting, outermost, open_at, behind, depths_from, depths}
 use Rattle.mage_syntax.specs.Faults.{fault_at, last_of, fault_of}
-use Rattle.mage_syntax.specs.FirstFault.{IsWithin, StandsBehind, IsFirstFault, IsFirstFaultOf, IsThisOrMemory, HasDepthOfRoom}
+use Rattle.mage_syntax.specs.FirstFault.{IsWithin, StandsBehind, IsFirstFault, IsFirstFaultOf, IsThisOrMemory, HasDepthOfRoom, HasSource, HasOneAnswer}
 use Rattle.mage_syntax.proofs.SoundStatements.{source_sound}
 use Rattle.mage_syntax.proofs.FullStatements.{source_full}
 use Rattle.mage_syntax.proofs.OneTree.{one_tree}
@@ -342,3 +342,34 @@ depth_of_room tokens room count body = ((λ s. read_within room tokens count bod
         let shallow : Shallow room outermost (d.front ++ d.token ∷ d.rest) = rw d.whole at (shallow_within room tokens w) in
         absurd (omega (arith, deep, shallow_there room d.front d.token d.rest outermost shallow))
     go other s w (Err stops.Memory) e = absurd (rw e at (m_source room tokens))
+
+same_kind : (kind other : LangKind) (front back : List Token) → StandsBehind kind front back → StandsBehind other front back → kind ≡ other
+same_kind kind wrong.Syntax front back s d = syntax_only kind front back s d
+same_kind kind wrong.TooDeep front back s d = deep_only kind front back s d
+same_kind kind wrong.BadByte front back s d = absurd d
+same_kind kind wrong.BadNumber front back s d = absurd d
+same_kind kind wrong.TooLong front back s d = absurd d
+same_kind kind wrong.UnknownName front back s d = absurd d
+same_kind kind wrong.Duplicate front back s d = absurd d
+same_kind kind wrong.WidthDiffers front back s d = absurd d
+same_kind kind wrong.WorkerDiffers front back s d = absurd d
+same_kind kind wrong.IndexOut front back s d = absurd d
+same_kind kind wrong.ConstFault front back s d = absurd d
+same_kind kind wrong.BadWidth front back s d = absurd d
+same_kind kind wrong.BadWorker front back s d = absurd d
+
+answer_of : (tokens : List Token) (read : Result (Option Token × List Stmt) Stop) → source_at 100 tokens ≡ read → HasSource tokens ⊎ ((kind : LangKind) × (back : List Token) × IsFirstFault kind tokens back)
+answer_of tokens (Ok x) e = inl (x.0, x.1, (rw e at (source_sound 100 tokens)))
+answer_of tokens (Err (stops.Syntax left)) e = let f = syntax_found tokens left e in inr (wrong.Syntax, f.0, f.2)
+answer_of tokens (Err (stops.TooDeep left)) e = let f = deep_found tokens left e in inr (wrong.TooDeep, f.0, f.2)
+answer_of tokens (Err stops.Memory) e = absurd (rw e at (m_source 100 tokens))
+
+-- some tokens have a source or one first fault
+pub one_answer : (tokens : List Token) → HasOneAnswer tokens
+one_answer tokens = record {
+  some = answer_of tokens (source_at 100 tokens) refl;
+  apart = λ kind back s f. no_fault tokens s.0 s.1 kind back (source_full s.2) f;
+  one = λ kind other back other_back f g.
+      let place = one_place tokens kind other back other_back f g in
+      (same_kind kind other g.0 other_back (moved kind f.0 back g.0 other_back place.0 place.1 f.2) g.2, place.1);
+}

@@ -1,5 +1,5 @@
 -- The first fault of some tokens, by the grammar and by how deep they stand.
-use Rattle.std.specs.Prelude.{◌≡◌, ℕ, ◌≤◌, List, [], ◌∷◌, ◌++◌, All, Option}
+use Rattle.std.specs.Prelude.{◌≡◌, ℕ, ◌≤◌, List, [], ◌∷◌, ◌++◌, ◌⊎◌, All, Option}
 use Rattle.mage_lex.specs.declared.token.Token.{Token}
 use Rattle.mage_lex.specs.declared.fault.LangKind.{LangKind}
 use Rattle.mage_lex.specs.declared.fault.LangKind.TheVariants as wrong
@@ -45,3 +45,14 @@ abbrev pub HasDepthOfRoom : List Token → Type 0
 HasDepthOfRoom tokens = (room : ℕ) (workers : Option Token) (body : List Stmt) →
     (IsSource room workers body tokens → IsWithin room tokens)
     × ((other : ℕ) → IsSource other workers body tokens → IsWithin room tokens → IsSource room workers body tokens)
+
+-- the tokens are those of a source within the depth
+abbrev pub HasSource : List Token → Type 0
+HasSource tokens = (workers : Option Token) × (body : List Stmt) × IsSource 100 workers body tokens
+
+-- some tokens have a source or a first fault, never both, and one fault at most
+pub record HasOneAnswer (tokens : List Token) : Type 0 where
+  pub some : HasSource tokens ⊎ ((kind : LangKind) × (back : List Token) × IsFirstFault kind tokens back)
+  pub apart : (kind : LangKind) (back : List Token) → HasSource tokens → IsFirstFault kind tokens back → ⊥
+  pub one : (kind other : LangKind) (back other_back : List Token) → IsFirstFault kind tokens back →
+      IsFirstFault other tokens other_back → (kind ≡ other) × (back ≡ other_back)

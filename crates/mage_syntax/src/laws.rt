@@ -2,7 +2,7 @@
 ghost use Rattle.std.specs.Prelude.{List};
 ghost use Rattle.mage_lex.specs.declared.token.Token.{Token as TokenValue};
 ghost use Rattle.mage_syntax.specs.Laws.{HasOneTree, StopsAtFirstWrong};
-ghost use Rattle.mage_syntax.specs.FirstFault.{HasDepthOfRoom};
+ghost use Rattle.mage_syntax.specs.FirstFault.{HasDepthOfRoom, HasOneAnswer};
 
 /// At most one tree belongs to a list of tokens.
 pub fn one_tree()
@@ -19,4 +19,9 @@ pub fn stops_at_first_wrong()
 /// what the depths of the tokens count.
 pub fn depth_of_room()
     ensures { (tokens : List TokenValue) → HasDepthOfRoom tokens }
+{}
+
+/// Tokens have a source within the depth or a first fault, never both, and one fault at most.
+pub fn one_answer()
+    ensures { (tokens : List TokenValue) → HasOneAnswer tokens }
 {}

@@ -9,7 +9,7 @@ mod sums;
 mod tree;
 mod words;
 
-pub use laws::{depth_of_room, one_tree, stops_at_first_wrong};
+pub use laws::{depth_of_room, one_answer, one_tree, stops_at_first_wrong};
 pub use parser::parse;
 pub use printer::print;
 pub use source::Source;
