@@ -1,0 +1,14 @@
+pub mod Bringing
+pub mod Counts
+pub mod Firsts
+pub mod Fits
+pub mod FitsLiterals
+pub mod Going
+pub mod Inputs
+pub mod Least
+pub mod Moving
+pub mod PlanFaults
+pub mod Potential
+pub mod Scans
+pub mod Serving
+pub mod Sets

@@ -1,0 +1,15 @@
+use Rattle.std.proofs.Common.{lit≤, refl}
+use Rattle.mage_next.proofs.TraceLiterals.{IsTrace-from_test}
+use Rattle.mage_belady.proofs.costs.tests.the_first_fault.Goals as goal
+
+pub cost-requires : goal.cost-requires
+cost-requires g c = IsTrace-from_test _ (lit≤ tt) refl
+
+pub cost-requires-2 : goal.cost-requires-2
+cost-requires-2 g c = IsTrace-from_test _ (lit≤ tt) refl
+
+pub cost-requires-3 : goal.cost-requires-3
+cost-requires-3 g c = IsTrace-from_test _ (lit≤ tt) refl
+
+pub cost-requires-4 : goal.cost-requires-4
+cost-requires-4 g c = IsTrace-from_test _ (lit≤ tt) refl
