@@ -1,0 +1,10 @@
+use Rattle.std.proofs.Common.{◌≡◌, map, drop}
+use Rattle.mage_scopes.specs.Scopes.{scopes_of}
+use Rattle.mage_unroll.specs.Constants.{const_chain, constant_of}
+use Rattle.mage_unroll.specs.State.{constants_in}
+use Rattle.mage_unroll.proofs.constants.+constants.Given as goal
+
+abbrev pub invariant-chained-loop-term : goal.invariant-chained-loop-term
+invariant-chained-loop-term l =
+    const_chain (map (λ term. (term.0, constant_of term.1)) (drop l.term-index l.rest)) (constants_in (scopes_of l.names)) l.so_far
+    ≡ const_chain (map (λ term. (term.0, constant_of term.1)) l.rest) (constants_in (scopes_of l.names)) l.initial.so_far

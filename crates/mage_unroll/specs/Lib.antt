@@ -1,0 +1,8 @@
+pub mod Constants
+pub mod Answer
+pub mod Kinds
+pub mod State
+pub mod Expressions
+pub mod Statements
+pub mod Unrolled
+pub mod Unroller

@@ -1,0 +1,15 @@
+// A fault at a token.
+ghost use Rattle.std.specs.Prelude.{◌≡◌};
+ghost use Rattle.mage_unroll.specs.Constants.{fault_at};
+
+use mage_lex::{LangFault, LangKind, Token};
+
+pub fn fault_at(kind: LangKind, token: &Token) -> LangFault
+    ensures { result ≡ fault_at kind token.now }
+{
+    LangFault::At {
+        kind,
+        line: token.line,
+        column: token.column,
+    }
+}

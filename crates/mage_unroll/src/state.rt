@@ -1,0 +1,53 @@
+// What names stand for while a source is unrolled, and what is emitted.
+use mage_instr::Instr;
+use sqlite_items::Items;
+
+/// A value that an instruction of the current worker defines.
+#[derive(Clone, Copy, Debug)]
+pub struct Variable {
+    /// Its width in bits, 1 to 64.
+    pub width: u8,
+    /// The index of the instruction among those of its worker.
+    pub index: u32,
+}
+
+/// What the name of a scalar stands for.
+#[derive(Clone, Copy, Debug)]
+pub struct Scalar {
+    pub worker: u8,
+    pub variable: Variable,
+}
+
+/// What the name of an array stands for.
+#[derive(Debug, Drop)]
+pub struct Array {
+    pub worker: u8,
+    /// The width of each item.
+    pub width: u8,
+    /// The index of the instruction that defines each item.
+    pub items: Items<u32>,
+}
+
+/// What a name stands for.
+#[derive(Debug, Drop)]
+pub enum Named {
+    Constant(i128),
+    Scalar(Scalar),
+    Array(Array),
+}
+
+/// An instruction, and the worker that does it.
+#[derive(Clone, Copy, Debug)]
+pub struct Emitted {
+    pub worker: u8,
+    pub instr: Instr,
+}
+
+/// What a place stands for.
+#[derive(Clone, Copy, Debug)]
+pub struct Held {
+    pub worker: u8,
+    pub variable: Variable,
+    /// Which item of the array it is, where it is one.
+    pub position: Option<usize>,
+}
