@@ -1,4 +1,6 @@
-pub mod Wide
 pub mod Given
-pub mod Value
+pub mod Laws
+pub mod Means
 pub mod Run
+pub mod Value
+pub mod Widths

@@ -1,12 +1,18 @@
 // A run so far.
-use crate::number::Number;
-use mage_names::Names;
+use crate::known::Known;
+use mage_scopes::Scopes;
+use std::alloc::Global;
 
+/// What is kept while a source is evaluated.
 #[derive(Drop)]
 pub struct Run<'a> {
-    pub names: Names<'a, Number>,
-    // The input values not taken yet.
-    pub garbler: &'a [u64],
-    pub evaluator: &'a [u64],
-    pub outputs: Vec<u64>,
+    pub alloc: Global,
+    // The current worker.
+    pub worker: u128,
+    pub names: Scopes<'a, Known>,
+    // Each worker's input values that aren't taken yet.
+    pub garbler: Vec<&'a [u64]>,
+    pub evaluator: Vec<&'a [u64]>,
+    // Each worker's outputs.
+    pub outputs: Vec<Vec<u64>>,
 }

@@ -1,66 +1,67 @@
 // The widths of input values.
-ghost use Rattle.std.specs.Prelude.{◌≡◌, ◌≤◌, ◌++◌, All, map, IfOk, OnOk};
-ghost use Rattle.std.specs.List.{flat_map};
-ghost use Rattle.mage_syntax.specs.declared.tree.Stmt.{out-Stmt};
-ghost use Rattle.mage_meaning.specs.Value.{party_of, width_or_one, is_party, widths_in, input_widths_of};
+ghost use Rattle.std.specs.Prelude.{◌≡◌, ◌≤◌, ◌++◌, ◌∷◌, List, All, map, IfOk, OnOk};
+ghost use Rattle.mage_instr.specs.declared.instr.Instr.{Instr};
+ghost use Rattle.mage_instr.specs.Sound.{IsSound};
+ghost use Rattle.mage_meaning.specs.Widths.{imm_of, is_input_of, widths_in, input_widths_of};
 
 use crate::Party;
 use mage_base::Memory;
-use mage_lex::Token;
-use mage_syntax::{Source, Stmt, bytes_of, width_of_type};
+use mage_instr::{Instr, Op, Program};
 use std::alloc::Global;
 
-// The party whose keyword this is.
-pub fn party_of(token: &Token) -> Party
-    ensures { result ≡ party_of token.now }
+// The immediate of an instruction that takes a value of this party.
+fn imm_of(party: Party) -> u64
+    ensures { result ≡ imm_of party }
 {
-    if bytes_of(token) == b"evaluator".as_slice() {
-        Party::Evaluator
-    } else {
-        Party::Garbler
+    match party {
+        Party::Garbler => 0,
+        Party::Evaluator => 1,
     }
 }
 
-pub fn width_or_one(ty: &Token) -> u8
-    ensures width { result ≡ width_or_one ty.now }
-    ensures least { 1 ≤ result }
-    ensures most { result ≤ 64 }
+fn is_input_of(instr: &Instr, whose: Party) -> bool
+    ensures { result ≡ is_input_of whose instr.now }
 {
-    width_of_type(bytes_of(ty)).unwrap_or(1)
+    matches!(instr.op, Op::Input) && instr.imm == imm_of(whose)
 }
 
-/// The widths of a party's input values, in order, for each worker. Each is 1 to 64.
-pub fn input_widths(alloc: Global, source: &Source, party: Party) -> Result<Vec<Vec<u8>>, Memory>
-    ensures widths { IfOk result (λ widths. map (λ own. own.items) widths.items ≡ input_widths_of party source.now) }
-    ensures in_range { IfOk result (λ widths. All (λ own. All (λ width. (1 ≤ width) × (width ≤ 64)) own.items) widths.items) }
-{
-    let own = widths_of(alloc, source.body(), party)?;
-    let mut widths = Vec::new(alloc);
-    widths.push(own)?;
-    Ok(widths)
-}
-
-// The widths of a party's input values among these statements.
-fn widths_of(alloc: Global, body: &[Stmt], party: Party) -> Result<Vec<u8>, Memory>
-    ensures widths { IfOk result (λ own. own.items ≡ flat_map (λ statement. widths_in party (out-Stmt statement)) body.now) }
+// The widths of a party's input values among these instructions, in order.
+fn widths_of(alloc: Global, instrs: &[Instr], whose: Party) -> Result<Vec<u8>, Memory>
+    requires { IsSound instrs.now }
+    ensures widths { IfOk result (λ own. own.items ≡ widths_in whose instrs.now) }
     ensures in_range { IfOk result (λ own. All (λ width. (1 ≤ width) × (width ≤ 64)) own.items) }
 {
     let mut own = Vec::new(alloc);
-    for statement in body {
-        add_width(&mut own, statement, party)?;
+    for instr in instrs {
+        add_width(&mut own, instr, whose)?;
     }
     Ok(own)
 }
 
-fn add_width(widths: &mut Vec<u8>, statement: &Stmt, whose: Party) -> Result<(), Memory>
-    ensures added { OnOk result (widths.new.items ≡ widths.old.items ++ widths_in whose (out-Stmt statement.now)) }
-    ensures in_range { OnOk result (All (λ width. (1 ≤ width) × (width ≤ 64)) widths.old.items
-        → All (λ width. (1 ≤ width) × (width ≤ 64)) widths.new.items) }
+// The width of an instruction more, where it takes a value of the party.
+fn add_width(own: &mut Vec<u8>, instr: &Instr, whose: Party) -> Result<(), Memory>
+    ensures in_front { (others : List Instr) → OnOk result (own.new.items ++ widths_in whose others
+        ≡ own.old.items ++ widths_in whose (instr.now ∷ others)) }
+    ensures in_range { OnOk result ((1 ≤ instr.now.width) × (instr.now.width ≤ 64)
+        → All (λ width. (1 ≤ width) × (width ≤ 64)) own.old.items
+        → All (λ width. (1 ≤ width) × (width ≤ 64)) own.new.items) }
 {
-    if let Stmt::Input { party, ty, .. } = statement {
-        if party_of(party) == whose {
-            widths.push(width_or_one(ty))?;
-        }
+    if is_input_of(instr, whose) {
+        own.push(instr.width)?;
     }
     Ok(())
+}
+
+/// The widths of a party's input values, in order, for each worker: those of its `Input` instructions. Each is 1 to 64.
+/// `Memory` where there is none for the list.
+pub fn input_widths(alloc: Global, program: &Program, party: Party) -> Result<Vec<Vec<u8>>, Memory>
+    requires { All IsSound program.now.workers }
+    ensures widths { IfOk result (λ widths. map (λ own. own.items) widths.items ≡ input_widths_of party program.now) }
+    ensures in_range { IfOk result (λ widths. All (λ own. All (λ width. (1 ≤ width) × (width ≤ 64)) own.items) widths.items) }
+{
+    let mut widths = Vec::new(alloc);
+    for instrs in program.workers.as_slice() {
+        widths.push(widths_of(alloc, instrs.as_slice(), party)?)?;
+    }
+    Ok(widths)
 }

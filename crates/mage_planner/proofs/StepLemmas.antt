@@ -1,8 +1,8 @@
 -- A refusal of a step is one of the whole work.
 use Rattle.std.proofs.Common.{◌≡◌, ℕ, List, Option, Some, None, Result, Ok, Err, ok_or, option_map, refl, ap, sym, subst, ◌∙◌}
-use Rattle.mage_syntax.specs.Sources.{Tree}
 use Rattle.mage_meaning.specs.declared.party.Party.{Party}
 use Rattle.mage_meaning.specs.declared.party.Party.TheVariants as party
+use Rattle.mage_planner.specs.declared.loaded.Loaded.{Loaded}
 use Rattle.mage_planner.specs.declared.status.Status.{Status}
 use Rattle.mage_planner.specs.declared.status.Status.TheVariants as status
 use Rattle.mage_planner.specs.Words.{Named, named_by}
@@ -23,18 +23,18 @@ source_refused status.Memory may = tt
 source_refused status.Language may = refl
 source_refused other may = cc
 
-pub numbers_refused : (whose : Party) (source : Tree) (s : Status) → IsFetchRefusal status.InputText s → Refuses s (numbers_of whose source Long)
+pub numbers_refused : (whose : Party) (loaded : Loaded) (s : Status) → IsFetchRefusal status.InputText s → Refuses s (numbers_of whose loaded Long)
 unfolding numbers_of
-numbers_refused whose source status.Desk may = tt
-numbers_refused whose source status.Memory may = tt
-numbers_refused whose source status.InputText may = refl
-numbers_refused whose source other may = cc
+numbers_refused whose loaded status.Desk may = tt
+numbers_refused whose loaded status.Memory may = tt
+numbers_refused whose loaded status.InputText may = refl
+numbers_refused whose loaded other may = cc
 
-abbrev then_evaluator : Tree → File → List (List ℕ) → Result (List ℕ) Status
-then_evaluator source evaluator garbler = numbers_of party.Evaluator source evaluator >>= (λ numbers. Ok (said_of source (record { garbler = garbler; evaluator = numbers })))
+abbrev then_evaluator : Loaded → File → List (List ℕ) → Result (List ℕ) Status
+then_evaluator loaded evaluator garbler = numbers_of party.Evaluator loaded evaluator >>= (λ numbers. Ok (said_of loaded (record { garbler = garbler; evaluator = numbers })))
 
-abbrev then_garbler : File → File → Tree → Result (List ℕ) Status
-then_garbler garbler evaluator source = numbers_of party.Garbler source garbler >>= then_evaluator source evaluator
+abbrev then_garbler : File → File → Loaded → Result (List ℕ) Status
+then_garbler garbler evaluator loaded = numbers_of party.Garbler loaded garbler >>= then_evaluator loaded evaluator
 
 abbrev work_of : Found → Result Named Status → Result (List ℕ) Status
 work_of found named = named >>= (λ _. source_of found.source >>= then_garbler found.garbler found.evaluator)
@@ -56,34 +56,34 @@ all_three source garbler evaluator = record { source = source; garbler = garbler
 -- the source is refused
 pub work-source : (words : List (List ℕ)) (named : Named) (file : File) (s : Status) → named_by words ≡ Some named → Refuses s (source_of file) → Refuses s (outcome_of (only_source file) words)
 work-source words named file s is refused =
-    Refuses-map s (source_of file) (outcome_of (only_source file) words) (λ e. outcome_of-named (only_source file) words named is ∙ ap (λ (r : Result Tree Status). r >>= then_garbler Absent Absent) e) refused
+    Refuses-map s (source_of file) (outcome_of (only_source file) words) (λ e. outcome_of-named (only_source file) words named is ∙ ap (λ (r : Result Loaded Status). r >>= then_garbler Absent Absent) e) refused
 
 -- the garbler's text is refused
-pub work-garbler : (words : List (List ℕ)) (named : Named) (file garbler : File) (source : Tree) (s : Status) → named_by words ≡ Some named → source_of file ≡ Ok source → Refuses s (numbers_of party.Garbler source garbler) → Refuses s (outcome_of (source_garbler file garbler) words)
-work-garbler words named file garbler source s is tree refused =
-    Refuses-map s (numbers_of party.Garbler source garbler) (outcome_of (source_garbler file garbler) words)
+pub work-garbler : (words : List (List ℕ)) (named : Named) (file garbler : File) (loaded : Loaded) (s : Status) → named_by words ≡ Some named → source_of file ≡ Ok loaded → Refuses s (numbers_of party.Garbler loaded garbler) → Refuses s (outcome_of (source_garbler file garbler) words)
+work-garbler words named file garbler loaded s is tree refused =
+    Refuses-map s (numbers_of party.Garbler loaded garbler) (outcome_of (source_garbler file garbler) words)
     (λ e. outcome_of-named (source_garbler file garbler) words named is
-    ∙ ap (λ (r : Result Tree Status). r >>= then_garbler garbler Absent) tree
-    ∙ ap (λ (r : Result (List (List ℕ)) Status). r >>= then_evaluator source Absent) e)
+    ∙ ap (λ (r : Result Loaded Status). r >>= then_garbler garbler Absent) tree
+    ∙ ap (λ (r : Result (List (List ℕ)) Status). r >>= then_evaluator loaded Absent) e)
     refused
 
 -- the evaluator's text is refused
-pub work-evaluator : (words : List (List ℕ)) (named : Named) (file garbler evaluator : File) (source : Tree) (numbers : List (List ℕ)) (s : Status) → named_by words ≡ Some named → source_of file ≡ Ok source → numbers_of party.Garbler source garbler ≡ Ok numbers → Refuses s (numbers_of party.Evaluator source evaluator) → Refuses s (outcome_of (all_three file garbler evaluator) words)
-work-evaluator words named file garbler evaluator source numbers s is tree read refused =
-    Refuses-map s (numbers_of party.Evaluator source evaluator) (outcome_of (all_three file garbler evaluator) words)
+pub work-evaluator : (words : List (List ℕ)) (named : Named) (file garbler evaluator : File) (loaded : Loaded) (numbers : List (List ℕ)) (s : Status) → named_by words ≡ Some named → source_of file ≡ Ok loaded → numbers_of party.Garbler loaded garbler ≡ Ok numbers → Refuses s (numbers_of party.Evaluator loaded evaluator) → Refuses s (outcome_of (all_three file garbler evaluator) words)
+work-evaluator words named file garbler evaluator loaded numbers s is tree read refused =
+    Refuses-map s (numbers_of party.Evaluator loaded evaluator) (outcome_of (all_three file garbler evaluator) words)
     (λ e. outcome_of-named (all_three file garbler evaluator) words named is
-    ∙ ap (λ (r : Result Tree Status). r >>= then_garbler garbler evaluator) tree
-    ∙ ap (λ (r : Result (List (List ℕ)) Status). r >>= then_evaluator source evaluator) read
-    ∙ ap (λ (r : Result (List (List ℕ)) Status). r >>= (λ given. Ok (said_of source (record { garbler = numbers; evaluator = given })))) e)
+    ∙ ap (λ (r : Result Loaded Status). r >>= then_garbler garbler evaluator) tree
+    ∙ ap (λ (r : Result (List (List ℕ)) Status). r >>= then_evaluator loaded evaluator) read
+    ∙ ap (λ (r : Result (List (List ℕ)) Status). r >>= (λ given. Ok (said_of loaded (record { garbler = numbers; evaluator = given })))) e)
     refused
 
 -- all is read
-pub work-all : (words : List (List ℕ)) (named : Named) (file garbler evaluator : File) (source : Tree) (numbers given : List (List ℕ)) → named_by words ≡ Some named → source_of file ≡ Ok source → numbers_of party.Garbler source garbler ≡ Ok numbers → numbers_of party.Evaluator source evaluator ≡ Ok given → outcome_of (all_three file garbler evaluator) words ≡ Ok (said_of source (record { garbler = numbers; evaluator = given }))
-work-all words named file garbler evaluator source numbers given is tree read read_too =
+pub work-all : (words : List (List ℕ)) (named : Named) (file garbler evaluator : File) (loaded : Loaded) (numbers given : List (List ℕ)) → named_by words ≡ Some named → source_of file ≡ Ok loaded → numbers_of party.Garbler loaded garbler ≡ Ok numbers → numbers_of party.Evaluator loaded evaluator ≡ Ok given → outcome_of (all_three file garbler evaluator) words ≡ Ok (said_of loaded (record { garbler = numbers; evaluator = given }))
+work-all words named file garbler evaluator loaded numbers given is tree read read_too =
     outcome_of-named (all_three file garbler evaluator) words named is
-    ∙ ap (λ (r : Result Tree Status). r >>= then_garbler garbler evaluator) tree
-    ∙ ap (λ (r : Result (List (List ℕ)) Status). r >>= then_evaluator source evaluator) read
-    ∙ ap (λ (r : Result (List (List ℕ)) Status). r >>= (λ given. Ok (said_of source (record { garbler = numbers; evaluator = given })))) read_too
+    ∙ ap (λ (r : Result Loaded Status). r >>= then_garbler garbler evaluator) tree
+    ∙ ap (λ (r : Result (List (List ℕ)) Status). r >>= then_evaluator loaded evaluator) read
+    ∙ ap (λ (r : Result (List (List ℕ)) Status). r >>= (λ given. Ok (said_of loaded (record { garbler = numbers; evaluator = given })))) read_too
 
 -- the words name no file
 pub work-words : {N : Type 0} (view : N → Named) (found : Found) (words : List (List ℕ)) (o : Option N) (r : Result N Status) (s : Status) → option_map view o ≡ named_by words → r ≡ ok_or o status.Words → r ≡ Err s → Refuses s (outcome_of found words)

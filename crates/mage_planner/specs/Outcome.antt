@@ -1,14 +1,18 @@
 -- What a command comes to, in the order of work.
 use Rattle.std.specs.Prelude.{ℕ, List, length, Option, Some, None, Result, Ok, Err, ok_or, nat_lt, if◌then◌else◌}
 use Rattle.mage_base.specs.Desk.{Files}
-use Rattle.mage_syntax.specs.Sources.{Tree}
-use Rattle.mage_syntax.specs.First.{first_of}
+use Rattle.mage_lex.specs.Tokens.{tokens_of}
+use Rattle.mage_lex.specs.declared.fault.LangFault.{LangFault}
+use Rattle.mage_syntax.specs.Faults.{parsed}
+use Rattle.mage_unroll.specs.Unrolled.{unrolled_of}
 use Rattle.mage_meaning.specs.declared.party.Party.{Party}
 use Rattle.mage_meaning.specs.declared.party.Party.TheVariants as party
 use Rattle.mage_meaning.specs.Given.{Given}
-use Rattle.mage_meaning.specs.Value.{value_of, input_widths_of}
+use Rattle.mage_meaning.specs.Value.{value_of}
+use Rattle.mage_meaning.specs.Widths.{input_widths_of}
 use Rattle.mage_texts.specs.InputText.{inputs_of}
 use Rattle.mage_texts.specs.OutputText.{text_of}
+use Rattle.mage_planner.specs.declared.loaded.Loaded.{Loaded}
 use Rattle.mage_planner.specs.declared.status.Status.{Status}
 use Rattle.mage_planner.specs.declared.status.Status.TheVariants as status
 use Rattle.mage_planner.specs.Words.{Named, named_by}
@@ -56,25 +60,38 @@ bytes_or too_long Absent = Err status.Desk
 bytes_or too_long Long = Err too_long
 bytes_or too_long (Held bytes) = Ok bytes
 
--- the tree of a source's file
-unfoldable pub source_of : File → Result Tree Status
+-- a fault of a text is its source's
+abbrev pub or_language : {T : Type 0} → Result T LangFault → Result T Status
+or_language (Ok x) = Ok x
+or_language (Err fault) = Err status.Language
+
+-- the tree of a source without a fault, and the program that it unrolls to
+unfoldable pub loaded_of : List ℕ → Result Loaded Status
+loaded_of text = do
+  tokens ← or_language (tokens_of text)
+  tree ← or_language (parsed text tokens)
+  program ← or_language (unrolled_of tree.0 tree.1)
+  Ok (record { source = record { workers = tree.0; body = tree.1 }; program = program })
+
+-- the same of a file
+unfoldable pub source_of : File → Result Loaded Status
 source_of file = do
   text ← bytes_or status.Language file
-  ok_or (first_of text) status.Language
+  loaded_of text
 
 abbrev pub inputs_or_fault : Result (List (List ℕ)) ℕ → Result (List (List ℕ)) Status
 inputs_or_fault (Ok numbers) = Ok numbers
 inputs_or_fault (Err line) = Err status.InputText
 
 -- the numbers of a party's input text
-unfoldable pub numbers_of : Party → Tree → File → Result (List (List ℕ)) Status
-numbers_of whose source file = do
+unfoldable pub numbers_of : Party → Loaded → File → Result (List (List ℕ)) Status
+numbers_of whose loaded file = do
   text ← bytes_or status.InputText file
-  inputs_or_fault (inputs_of text (input_widths_of whose source))
+  inputs_or_fault (inputs_of text (input_widths_of whose loaded.program))
 
 -- what is said of the outputs
-abbrev pub said_of : Tree → Given → List ℕ
-said_of source given = text_of (value_of source given)
+abbrev pub said_of : Loaded → Given → List ℕ
+said_of loaded given = text_of (value_of loaded.source.workers loaded.source.body given)
 
 -- the files of a command, where they are told
 abbrev pub found_by : Files → List (List ℕ) → Found
@@ -84,7 +101,7 @@ found_by files words = found_for files (named_by words)
 unfoldable pub outcome_of : Found → List (List ℕ) → Result (List ℕ) Status
 outcome_of found words = do
   named ← ok_or (named_by words) status.Words
-  source ← source_of found.source
-  garbler ← numbers_of party.Garbler source found.garbler
-  evaluator ← numbers_of party.Evaluator source found.evaluator
-  Ok (said_of source (record { garbler = garbler; evaluator = evaluator }))
+  loaded ← source_of found.source
+  garbler ← numbers_of party.Garbler loaded found.garbler
+  evaluator ← numbers_of party.Evaluator loaded found.evaluator
+  Ok (said_of loaded (record { garbler = garbler; evaluator = evaluator }))

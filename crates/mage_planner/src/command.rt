@@ -87,8 +87,8 @@ pub fn work<D: Desk>(alloc: Global, words: &[String], desk: &mut D) -> Result<Ve
     ensures room { D.room desk.new ≡ D.room desk.old }
 {
     let named = named_by(words).ok_or(Status::Words)?;
-    let source = read_source(alloc, desk, named.source)?;
-    let garbler = read_numbers(alloc, desk, named.garbler, &source, Party::Garbler)?;
-    let evaluator = read_numbers(alloc, desk, named.evaluator, &source, Party::Evaluator)?;
-    outputs(alloc, &source, &Inputs { garbler, evaluator })
+    let loaded = read_source(alloc, desk, named.source)?;
+    let garbler = read_numbers(alloc, desk, named.garbler, &loaded, Party::Garbler)?;
+    let evaluator = read_numbers(alloc, desk, named.evaluator, &loaded, Party::Evaluator)?;
+    outputs(alloc, &loaded, &Inputs { garbler, evaluator })
 }

@@ -3,6 +3,8 @@
 
 mod code;
 mod command;
+mod language;
+mod loaded;
 mod named;
 mod solo;
 mod status;

@@ -1,16 +1,18 @@
 // The steps of `solo`, in the order of work.
-ghost use Rattle.std.specs.Prelude.{◌≡◌, ℕ, Ok, ok_or, IsTrue, IsSome, IfSome, IfErr};
-ghost use Rattle.mage_syntax.specs.First.{first_of};
-ghost use Rattle.mage_meaning.specs.Value.{input_widths_of};
+ghost use Rattle.std.specs.Prelude.{◌≡◌, ℕ, Ok, All, IsTrue, IsSome, IfSome, IfOk, IfErr};
+ghost use Rattle.mage_instr.specs.Sound.{IsSound};
+ghost use Rattle.mage_meaning.specs.Widths.{input_widths_of};
 ghost use Rattle.mage_texts.specs.Lists.{lists_of};
 ghost use Rattle.mage_texts.specs.InputText.{inputs_of};
 ghost use Rattle.mage_planner.specs.Outcome.{File, file_at, bytes_or, inputs_or_fault, source_of, numbers_of, said_of};
 ghost use Rattle.mage_planner.specs.Answer.{Gives, IsFetchRefusal, StepCounted, IsNoDeskFault, IsNoWordsFault};
 
 use crate::Status;
+use crate::language::load;
+use crate::loaded::Loaded;
 use mage_base::{Desk, DeskError};
+use mage_instr::Program;
 use mage_meaning::{Inputs, Party, input_widths, oracle};
-use mage_syntax::{FirstFault, Source, first};
 use mage_texts::{InputFault, output_text, read_inputs};
 use std::alloc::Global;
 
@@ -66,34 +68,21 @@ fn fetch_input<D: Desk>(alloc: Global, desk: &mut D, name: &str) -> Result<Vec<u
     }
 }
 
-// The tree of a source.
-fn tree(alloc: Global, text: &[u8]) -> Result<Source, Status>
-    ensures quiet { (faults : ℕ) → StepCounted faults faults result }
-    ensures no_fault { IsNoDeskFault result }
-    ensures no_words { IsNoWordsFault result }
-    ensures tree { Gives (λ source. source) result (ok_or (first_of text.now) Status.Language) }
-{
-    match first(alloc, text) {
-        Ok(source) => Ok(source),
-        Err(FirstFault::NotBuilt) => Err(Status::Language),
-        Err(FirstFault::Memory) => Err(Status::Memory),
-    }
-}
-
 // The numbers of a party's input text.
 fn numbers(
     alloc: Global,
     text: &[u8],
-    source: &Source,
+    program: &Program,
     party: Party,
 ) -> Result<Vec<Vec<u64>>, Status>
+    requires { All IsSound program.now.workers }
     ensures quiet { (faults : ℕ) → StepCounted faults faults result }
     ensures no_fault { IsNoDeskFault result }
     ensures no_words { IsNoWordsFault result }
     ensures numbers { Gives (λ numbers. lists_of numbers.items) result
-        (inputs_or_fault (inputs_of text.now (input_widths_of party source.now))) }
+        (inputs_or_fault (inputs_of text.now (input_widths_of party program.now))) }
 {
-    let widths = input_widths(alloc, source, party).map_err(|_| Status::Memory)?;
+    let widths = input_widths(alloc, program, party).map_err(|_| Status::Memory)?;
     match read_inputs(alloc, text, widths.as_slice()) {
         Ok(numbers) => Ok(numbers),
         Err(InputFault::Line { .. }) => Err(Status::InputText),
@@ -102,22 +91,23 @@ fn numbers(
 }
 
 // What is said of a source's outputs.
-pub fn outputs(alloc: Global, source: &Source, inputs: &Inputs) -> Result<Vec<u8>, Status>
+pub fn outputs(alloc: Global, loaded: &Loaded, inputs: &Inputs) -> Result<Vec<u8>, Status>
     ensures quiet { (faults : ℕ) → StepCounted faults faults result }
     ensures no_fault { IsNoDeskFault result }
     ensures no_words { IsNoWordsFault result }
-    ensures text { Gives (λ text. text.items) result (Ok (said_of source.now inputs.now)) }
+    ensures text { Gives (λ text. text.items) result (Ok (said_of loaded.now inputs.now)) }
 {
-    let outputs = oracle(alloc, source, inputs).map_err(|_| Status::Memory)?;
+    let outputs = oracle(alloc, &loaded.source, inputs).map_err(|_| Status::Memory)?;
     output_text(alloc, outputs.as_slice()).map_err(|_| Status::Memory)
 }
 
-/// The tree of the source that a file has.
+/// The tree of the source that a file has, and the program that it unrolls to.
 #[tactic(auto, unfolding(crate::specs::Outcome::source_of))]
-pub fn read_source<D: Desk>(alloc: Global, desk: &mut D, name: &str) -> Result<Source, Status>
+pub fn read_source<D: Desk>(alloc: Global, desk: &mut D, name: &str) -> Result<Loaded, Status>
     ensures told { IfSome (D.files desk.old) (λ files.
-        Gives (λ source. source) result (source_of (file_at files name.now 1048576))) }
-    ensures some { (file : File) × Gives (λ source. source) result (source_of file) }
+        Gives (λ loaded. loaded) result (source_of (file_at files name.now 1048576))) }
+    ensures some { (file : File) × Gives (λ loaded. loaded) result (source_of file) }
+    ensures sound { IfOk result (λ loaded. All IsSound loaded.program.workers) }
     ensures no_words { IsNoWordsFault result }
     ensures cause { StepCounted (D.faults desk.old) (D.faults desk.new) result }
     ensures steady_finds { IsTrue (D.steady desk.old)
@@ -129,7 +119,7 @@ pub fn read_source<D: Desk>(alloc: Global, desk: &mut D, name: &str) -> Result<S
     ensures room { D.room desk.new ≡ D.room desk.old }
 {
     let text = fetch_source(alloc, desk, name)?;
-    tree(alloc, &text)
+    load(alloc, &text)
 }
 
 /// The numbers of a party's input text, which a file has.
@@ -138,12 +128,13 @@ pub fn read_numbers<D: Desk>(
     alloc: Global,
     desk: &mut D,
     name: &str,
-    source: &Source,
+    loaded: &Loaded,
     party: Party,
 ) -> Result<Vec<Vec<u64>>, Status>
+    requires { All IsSound loaded.now.program.workers }
     ensures told { IfSome (D.files desk.old) (λ files.
-        Gives (λ numbers. lists_of numbers.items) result (numbers_of party source.now (file_at files name.now 67108864))) }
-    ensures some { (file : File) × Gives (λ numbers. lists_of numbers.items) result (numbers_of party source.now file) }
+        Gives (λ numbers. lists_of numbers.items) result (numbers_of party loaded.now (file_at files name.now 67108864))) }
+    ensures some { (file : File) × Gives (λ numbers. lists_of numbers.items) result (numbers_of party loaded.now file) }
     ensures no_words { IsNoWordsFault result }
     ensures cause { StepCounted (D.faults desk.old) (D.faults desk.new) result }
     ensures steady_finds { IsTrue (D.steady desk.old)
@@ -155,5 +146,5 @@ pub fn read_numbers<D: Desk>(
     ensures room { D.room desk.new ≡ D.room desk.old }
 {
     let text = fetch_input(alloc, desk, name)?;
-    numbers(alloc, &text, source, party)
+    numbers(alloc, &text, &loaded.program, party)
 }

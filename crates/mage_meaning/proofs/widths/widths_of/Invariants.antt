@@ -1,11 +1,9 @@
-use Rattle.std.proofs.Common.{◌≡◌, ◌≤◌, take, All}
-use Rattle.std.specs.List.{flat_map}
-use Rattle.mage_syntax.specs.declared.tree.Stmt.{out-Stmt}
-use Rattle.mage_meaning.specs.Value.{widths_in}
+use Rattle.std.proofs.Common.{◌≡◌, ◌≤◌, ◌++◌, drop, All}
+use Rattle.mage_meaning.specs.Widths.{widths_in}
 use Rattle.mage_meaning.proofs.widths.widths_of.Given as goal
 
-abbrev pub invariant-loop-statement : goal.invariant-loop-statement
-invariant-loop-statement l = record {
-  widths : l.own.items ≡ flat_map (λ statement. widths_in l.party (out-Stmt statement)) (take l.statement-index l.body);
+abbrev pub invariant-loop-instr : goal.invariant-loop-instr
+invariant-loop-instr l = record {
+  widths : l.own.items ++ widths_in l.whose (drop l.instr-index l.instrs) ≡ widths_in l.whose l.instrs;
   in_range : All (λ width. (1 ≤ width) × (width ≤ 64)) l.own.items;
 }

@@ -3,4 +3,4 @@ use Rattle.mage_planner.proofs.solo.read_source.Goals as goal
 
 pub returns-clause-some : goal.returns-clause-some
 unfolding source_of
-returns-clause-some g c = (Held c.in_ok-text.text.items, rw (← c.deref.ensures.value) c.tree.ensures.tree)
+returns-clause-some g c = (Held c.in_ok-text.text.items, rw (← c.deref.ensures.value) c.load.ensures.loaded)

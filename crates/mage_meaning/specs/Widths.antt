@@ -1,0 +1,30 @@
+-- The widths of input values, as the instructions of a program have them.
+use Rattle.std.specs.Prelude.{ℕ, ◌==◌, ◌&&◌, Bool, true, false, List, map}
+use Rattle.std.specs.List.{filter}
+use Rattle.mage_instr.specs.declared.instr.Instr.{Instr}
+use Rattle.mage_instr.specs.declared.instr.Program.{Program}
+use Rattle.mage_instr.specs.declared.op.Op.{Op}
+use Rattle.mage_instr.specs.declared.op.Op.TheVariants as op
+use Rattle.mage_meaning.specs.declared.party.Party.{Party}
+use Rattle.mage_meaning.specs.declared.party.Party.TheVariants as party
+
+-- the immediate of an instruction that takes a value of this party
+abbrev pub imm_of : Party → ℕ
+imm_of party.Garbler = 0
+imm_of party.Evaluator = 1
+
+abbrev pub is_input : Op → Bool
+is_input op.Input = true
+is_input other = false
+
+-- the instruction takes an input value of this party
+abbrev pub is_input_of : Party → Instr → Bool
+is_input_of whose i = is_input i.op && i.imm == imm_of whose
+
+-- the widths of a party's input values among some instructions, in order
+abbrev pub widths_in : Party → List Instr → List ℕ
+widths_in whose instrs = map (λ i. i.width) (filter (is_input_of whose) instrs)
+
+-- the same for each worker of a program
+abbrev pub input_widths_of : Party → Program → List (List ℕ)
+input_widths_of whose program = map (widths_in whose) program.workers
