@@ -4,7 +4,7 @@ use Rattle.mage_base.specs.Desk.{Files}
 use Rattle.mage_base.specs.Faults.{Rose}
 use Rattle.mage_planner.specs.declared.status.Status.{Status}
 use Rattle.mage_planner.specs.declared.status.Status.TheVariants as status
-use Rattle.mage_planner.specs.Words.{Named}
+use Rattle.mage_words.specs.Words.{Solo}
 
 -- A refusal is the one that the work comes to. A fault of the desk and want of memory may come before it.
 abbrev pub Refuses : {T : Type 0} → Status → Result T Status → Type 0
@@ -71,10 +71,15 @@ abbrev pub Answers : Result (List ℕ) Status → Status → Option (List ℕ) �
 Answers outcome status.Ok before after = IsOkAnd outcome (λ text. Grows before after (λ old new. new ≡ old ++ text))
 Answers outcome refusal before after = Refuses refusal outcome × RefusalLeaves outcome refusal before after
 
+-- the desk has the file, where one is named
+abbrev pub HasNamed : Files → Option (List ℕ) → Type 0
+HasNamed files None = Unit {0}
+HasNamed files (Some name) = IsSome (files name)
+
 -- the desk has each file that the words name
-abbrev pub HasFiles : Files → Option Named → Type 0
+abbrev pub HasFiles : Files → Option Solo → Type 0
 HasFiles files None = Unit {0}
-HasFiles files (Some named) = IsSome (files named.source) × IsSome (files named.garbler) × IsSome (files named.evaluator)
+HasFiles files (Some solo) = IsSome (files solo.source) × HasNamed files solo.garbler × HasNamed files solo.evaluator
 
 -- the refusal that an outcome is, if it is one: an absent file is the desk's fault, and no refusal
 abbrev pub refusal_of : Result (List ℕ) Status → Option Status
@@ -86,6 +91,12 @@ abbrev pub IsOkOrMemory : Status → Type 0
 IsOkOrMemory status.Ok = Unit {0}
 IsOkOrMemory status.Memory = Unit {0}
 IsOkOrMemory other = ⊥
+
+-- what words may be answered that ask for nothing
+abbrev pub IsWordsOrMemory : Status → Type 0
+IsWordsOrMemory status.Words = Unit {0}
+IsWordsOrMemory status.Memory = Unit {0}
+IsWordsOrMemory other = ⊥
 
 -- there is room for what is to be said
 abbrev pub HasRoom : ℕ → Result (List ℕ) Status → Type 0

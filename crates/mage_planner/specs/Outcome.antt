@@ -1,5 +1,5 @@
 -- What a command comes to, in the order of work.
-use Rattle.std.specs.Prelude.{ℕ, List, length, Option, Some, None, Result, Ok, Err, ok_or, nat_lt, if◌then◌else◌}
+use Rattle.std.specs.Prelude.{ℕ, List, [], length, Option, Some, None, Result, Ok, Err, ok_or, nat_lt, if◌then◌else◌}
 use Rattle.mage_base.specs.Desk.{Files}
 use Rattle.mage_lex.specs.Tokens.{tokens_of}
 use Rattle.mage_lex.specs.declared.fault.LangFault.{LangFault}
@@ -15,7 +15,7 @@ use Rattle.mage_texts.specs.OutputText.{text_of}
 use Rattle.mage_planner.specs.declared.loaded.Loaded.{Loaded}
 use Rattle.mage_planner.specs.declared.status.Status.{Status}
 use Rattle.mage_planner.specs.declared.status.Status.TheVariants as status
-use Rattle.mage_planner.specs.Words.{Named, named_by}
+use Rattle.mage_words.specs.Words.{Solo, solo_of}
 
 -- a file as a fetch with a limit finds it
 pub data File : Type 0 where
@@ -30,6 +30,11 @@ file_of limit (Some bytes) = if nat_lt limit (length bytes) then Long else Held 
 abbrev pub file_at : Files → List ℕ → ℕ → File
 file_at files name limit = file_of limit (files name)
 
+-- an input text: that of the file, where one is named, and else the empty one
+abbrev pub file_named : Files → Option (List ℕ) → ℕ → File
+file_named files None limit = Held []
+file_named files (Some name) limit = file_at files name limit
+
 -- the files that a command reads, as its fetches find them
 pub record Found : Type 0 where
   pub source : File
@@ -37,17 +42,17 @@ pub record Found : Type 0 where
   pub evaluator : File
 
 -- a source has at most 1,048,576 bytes, and an input text at most 67,108,864
-abbrev pub found_in : Files → Named → Found
-found_in files named = record {
-  source = file_at files named.source 1048576;
-  garbler = file_at files named.garbler 67108864;
-  evaluator = file_at files named.evaluator 67108864;
+abbrev pub found_in : Files → Solo → Found
+found_in files solo = record {
+  source = file_at files solo.source 1048576;
+  garbler = file_named files solo.garbler 67108864;
+  evaluator = file_named files solo.evaluator 67108864;
 }
 
 -- where the words name no file, no file is read
-abbrev pub found_for : Files → Option Named → Found
+abbrev pub found_for : Files → Option Solo → Found
 found_for files None = record { source = Absent; garbler = Absent; evaluator = Absent }
-found_for files (Some named) = found_in files named
+found_for files (Some solo) = found_in files solo
 
 infixl 10 ◌>>=◌
 abbrev pub ◌>>=◌ : {A B : Type 0} → Result A Status → (A → Result B Status) → Result B Status
@@ -95,12 +100,12 @@ said_of loaded given = text_of (value_of loaded.source.workers loaded.source.bod
 
 -- the files of a command, where they are told
 abbrev pub found_by : Files → List (List ℕ) → Found
-found_by files words = found_for files (named_by words)
+found_by files words = found_for files (solo_of words)
 
 -- what a command says, or the first status in the order of work that refuses it; an absent file stops it too
 unfoldable pub outcome_of : Found → List (List ℕ) → Result (List ℕ) Status
 outcome_of found words = do
-  named ← ok_or (named_by words) status.Words
+  solo ← ok_or (solo_of words) status.Words
   loaded ← source_of found.source
   garbler ← numbers_of party.Garbler loaded found.garbler
   evaluator ← numbers_of party.Evaluator loaded found.evaluator

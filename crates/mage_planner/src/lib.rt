@@ -5,7 +5,6 @@ mod code;
 mod command;
 mod language;
 mod loaded;
-mod named;
 mod solo;
 mod status;
 mod top;

@@ -1,11 +1,11 @@
 // The steps of `solo`, in the order of work.
-ghost use Rattle.std.specs.Prelude.{◌≡◌, ℕ, Ok, All, IsTrue, IsSome, IfSome, IfOk, IfErr};
+ghost use Rattle.std.specs.Prelude.{◌≡◌, ℕ, Ok, option_map, All, IsTrue, IsSome, IfSome, IfOk, IfErr};
 ghost use Rattle.mage_instr.specs.Sound.{IsSound};
 ghost use Rattle.mage_meaning.specs.Widths.{input_widths_of};
 ghost use Rattle.mage_texts.specs.Lists.{lists_of};
 ghost use Rattle.mage_texts.specs.InputText.{inputs_of};
-ghost use Rattle.mage_planner.specs.Outcome.{File, file_at, bytes_or, inputs_or_fault, source_of, numbers_of, said_of};
-ghost use Rattle.mage_planner.specs.Answer.{Gives, IsFetchRefusal, StepCounted, IsNoDeskFault, IsNoWordsFault};
+ghost use Rattle.mage_planner.specs.Outcome.{File, file_at, file_named, bytes_or, inputs_or_fault, source_of, numbers_of, said_of};
+ghost use Rattle.mage_planner.specs.Answer.{Gives, IsFetchRefusal, StepCounted, IsNoDeskFault, IsNoWordsFault, HasNamed};
 
 use crate::Status;
 use crate::language::load;
@@ -45,21 +45,28 @@ fn fetch_source<D: Desk>(alloc: Global, desk: &mut D, name: &str) -> Result<Vec<
     }
 }
 
-// The bytes of an input text's file.
-fn fetch_input<D: Desk>(alloc: Global, desk: &mut D, name: &str) -> Result<Vec<u8>, Status>
+// The bytes of an input text: of the file, where one is named.
+fn fetch_input<D: Desk>(
+    alloc: Global,
+    desk: &mut D,
+    name: Option<&str>,
+) -> Result<Vec<u8>, Status>
     ensures told { IfSome (D.files desk.old) (λ files.
-        Gives (λ bytes. bytes.items) result (bytes_or Status.InputText (file_at files name.now 67108864))) }
+        Gives (λ bytes. bytes.items) result (bytes_or Status.InputText (file_named files (option_map (λ n. n.now) name.entry) 67108864))) }
     ensures refusal { IfErr result (IsFetchRefusal Status.InputText) }
     ensures no_words { IsNoWordsFault result }
     ensures cause { StepCounted (D.faults desk.old) (D.faults desk.new) result }
     ensures steady_finds { IsTrue (D.steady desk.old)
-        → IfSome (D.files desk.old) (λ files. IsSome (files name.now) → IsNoDeskFault result) }
+        → IfSome (D.files desk.old) (λ files. HasNamed files (option_map (λ n. n.now) name.entry) → IsNoDeskFault result) }
 
     ensures files { D.files desk.new ≡ D.files desk.old }
     ensures said { D.said desk.new ≡ D.said desk.old }
     ensures steady { D.steady desk.new ≡ D.steady desk.old }
     ensures room { D.room desk.new ≡ D.room desk.old }
 {
+    let Some(name) = name else {
+        return Ok(Vec::new(alloc));
+    };
     match desk.fetch(alloc, name, MOST_INPUT_BYTES) {
         Ok(bytes) => Ok(bytes),
         Err(DeskError::Fault) => Err(Status::Desk),
@@ -122,23 +129,23 @@ pub fn read_source<D: Desk>(alloc: Global, desk: &mut D, name: &str) -> Result<L
     load(alloc, &text)
 }
 
-/// The numbers of a party's input text, which a file has.
+/// The numbers of a party's input text, which is that of the file where one is named, and else empty.
 #[tactic(auto, unfolding(crate::specs::Outcome::numbers_of))]
 pub fn read_numbers<D: Desk>(
     alloc: Global,
     desk: &mut D,
-    name: &str,
+    name: Option<&str>,
     loaded: &Loaded,
     party: Party,
 ) -> Result<Vec<Vec<u64>>, Status>
     requires { All IsSound loaded.now.program.workers }
     ensures told { IfSome (D.files desk.old) (λ files.
-        Gives (λ numbers. lists_of numbers.items) result (numbers_of party loaded.now (file_at files name.now 67108864))) }
+        Gives (λ numbers. lists_of numbers.items) result (numbers_of party loaded.now (file_named files (option_map (λ n. n.now) name.entry) 67108864))) }
     ensures some { (file : File) × Gives (λ numbers. lists_of numbers.items) result (numbers_of party loaded.now file) }
     ensures no_words { IsNoWordsFault result }
     ensures cause { StepCounted (D.faults desk.old) (D.faults desk.new) result }
     ensures steady_finds { IsTrue (D.steady desk.old)
-        → IfSome (D.files desk.old) (λ files. IsSome (files name.now) → IsNoDeskFault result) }
+        → IfSome (D.files desk.old) (λ files. HasNamed files (option_map (λ n. n.now) name.entry) → IsNoDeskFault result) }
 
     ensures files { D.files desk.new ≡ D.files desk.old }
     ensures said { D.said desk.new ≡ D.said desk.old }

@@ -78,61 +78,73 @@ fn the_longest_source_is_read(rt: HostRuntime) -> Result<(), Fail> {
     Ok(())
 }
 
+// The words of a line, which single spaces part.
+fn words_of(alloc: Global, line: &str) -> Result<Vec<String>, AllocError> {
+    let mut words = Vec::new(alloc);
+    for word in line.split(' ') {
+        words.push(String::from_str(alloc, word)?)?;
+    }
+    Ok(words)
+}
+
 #[test]
 fn other_words_are_refused(rt: HostRuntime) -> Result<(), Fail> {
     let alloc = rt.alloc();
     let fails = DeskFails::none(alloc);
     let mut desk = desk_with(alloc, &fails, 1000, SUM, b"200", b"100")?;
-    let none: [&str; 0] = [];
-    let lists: [&[&str]; 9] = [
-        &none,
-        &["solo"],
-        &[
-            "plan",
-            "--source",
-            "s",
-            "--garbler",
-            "g",
-            "--evaluator",
-            "e",
-        ],
-        &["solo", "--source", "s", "--garbler", "g", "--evaluator"],
-        &[
-            "solo",
-            "--source",
-            "s",
-            "--garbler",
-            "g",
-            "--evaluator",
-            "e",
-            "e",
-        ],
-        &[
-            "solo",
-            "--garbler",
-            "g",
-            "--source",
-            "s",
-            "--evaluator",
-            "e",
-        ],
-        &["solo", "--source", "", "--garbler", "g", "--evaluator", "e"],
-        &[
-            "solo",
-            "--source",
-            "-s",
-            "--garbler",
-            "g",
-            "--evaluator",
-            "e",
-        ],
-        &["--help"],
-    ];
-    for list in lists {
-        let words = owned(alloc, list)?;
-        assert_eq!(rt; planner(alloc, &words, &mut desk), Status::Words);
+    assert_eq!(rt; planner(alloc, &[], &mut desk), Status::Words);
+    for line in [
+        "solo",
+        "--help",
+        "plan --source s --garbler g --evaluator e",
+        "solo --source s --garbler g --evaluator",
+        "solo --source s --garbler g --evaluator e e",
+        "solo --source s --source s --garbler g --evaluator e",
+        "solo --source  --garbler g --evaluator e",
+        "solo --source -s --garbler g --evaluator e",
+        "solo --source s --garbler g --evaluator e --frames 0",
+        "solo --source s --garbler g --evaluator e --page 100",
+        "solo --source s --garbler g --evaluator e --page 65536 --frames 57",
+        "solo --source s --garbler g --evaluator e --driver garble",
+    ] {
+        let words = words_of(alloc, line)?;
+        assert_eq!(rt; planner(alloc, &words, &mut desk), Status::Words, "{line}");
     }
     assert_eq!(rt; desk.said(), b"".as_slice());
+    Ok(())
+}
+
+#[test]
+fn options_of_solo(rt: HostRuntime) -> Result<(), Fail> {
+    let alloc = rt.alloc();
+    let fails = DeskFails::none(alloc);
+    for line in [
+        "solo --source s --garbler g --evaluator e --page 65536 --frames 56",
+        "solo --evaluator e --driver plain --garbler g --source s",
+    ] {
+        let words = words_of(alloc, line)?;
+        let mut desk = desk_with(alloc, &fails, 1000, SUM, b"200", b"100")?;
+        assert_eq!(rt; planner(alloc, &words, &mut desk), Status::Ok, "{line}");
+        assert_eq!(rt; desk.said(), b"44\n".as_slice(), "{line}");
+    }
+    Ok(())
+}
+
+// An input text that isn't named is empty.
+#[test]
+fn input_texts_that_are_not_named(rt: HostRuntime) -> Result<(), Fail> {
+    let alloc = rt.alloc();
+    let fails = DeskFails::none(alloc);
+    let own = b"input garbler a: u8; output a;";
+    for (line, status) in [
+        ("solo --source s", Status::InputText),
+        ("solo --source s --evaluator e", Status::InputText),
+        ("solo --source s --garbler g", Status::Ok),
+    ] {
+        let words = words_of(alloc, line)?;
+        let mut desk = desk_with(alloc, &fails, 1000, own, b"7", b"")?;
+        assert_eq!(rt; planner(alloc, &words, &mut desk), status, "{line}");
+    }
     Ok(())
 }
 

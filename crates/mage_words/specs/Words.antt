@@ -1,0 +1,173 @@
+-- The words of a command: a command word, and then pairs of words, an option's name and its value.
+use Rattle.std.specs.Prelude.{ℕ, ◌==◌, ◌+◌, ◌*◌, ◌&&◌, ◌||◌, nat_le, nat_lt, Bool, true, false, not, List, [], ◌∷◌, length, drop, map, find, Option, Some, None, is_some, option_map, option_and_then, nat_eq, String, codes, if◌then◌else◌}
+use Rattle.std.specs.List.{list_any, list_all, starts_with}
+use Rattle.std.specs.Option.{option_or}
+use Rattle.std.specs.Char.{is_ascii_digit}
+use Rattle.std.specs.Int.{is_power_of_two}
+use Rattle.std.specs.String.{string_bytes}
+use Rattle.std.specs.Str.{bytes_eq}
+use Rattle.std.specs.Str.Parse.{digits_value}
+use Rattle.std.specs.declared.alloc.Global.{Global}
+use Rattle.mage_instr.specs.declared.replaced.Limits.{Limits}
+use Rattle.mage_words.specs.declared.option.OptionName.{OptionName}
+use Rattle.mage_words.specs.declared.option.OptionName.TheVariants as option
+use Rattle.mage_words.specs.declared.option.Kind.{Kind}
+use Rattle.mage_words.specs.declared.option.Kind.TheVariants as kind
+use Rattle.mage_words.specs.declared.request.Driver.{Driver}
+use Rattle.mage_words.specs.declared.request.Driver.TheVariants as driver
+use Rattle.mage_words.specs.Options.{OptionRule, Absence, Required, Default, rule_of}
+
+infixl 10 ◌>>=◌
+abbrev pub ◌>>=◌ : {A B : Type 0} → Option A → (A → Option B) → Option B
+o >>= f = option_and_then f o
+
+-- the bytes of each word
+abbrev pub bytes_of_words : List (String Global) → List (List ℕ)
+bytes_of_words words = map string_bytes words
+
+-- ---- the form of pairs
+
+-- an option's name, without the two dashes in front, and its value
+pub record Pair : Type 0 where
+  pub name : List ℕ
+  pub value : List ℕ
+
+-- a first word: two dashes, at least one byte more, and no `=` (61)
+abbrev pub is_option_word : List ℕ → Bool
+is_option_word word =
+    starts_with nat_eq word (codes "--") && (nat_lt 2 (length word) && not (list_any (λ byte. byte == 61) word))
+
+-- a second word: it isn't empty, and doesn't begin with a dash
+abbrev pub is_value_word : List ℕ → Bool
+is_value_word [] = false
+is_value_word (first ∷ rest) = not (first == 45)
+
+-- the pairs that the words are, if they are pairs
+abbrev pub pairs_of : List (List ℕ) → Option (List Pair)
+pairs_of [] = Some []
+pairs_of (word ∷ []) = None
+pairs_of (word ∷ value ∷ rest) =
+    if is_option_word word && is_value_word value
+    then option_map (λ pairs. record { name = drop 2 word; value = value } ∷ pairs) (pairs_of rest)
+    else None
+
+-- ---- the options of a command, by the rows of the table
+
+-- the value that the pairs give an option
+abbrev pub given : List Pair → (name : List ℕ) → Option (List ℕ)
+given pairs name = option_map (λ pair. pair.value) (find (λ pair. bytes_eq pair.name name) pairs)
+
+-- one of the options is named
+abbrev pub is_known : List OptionRule → Pair → Bool
+is_known rules pair = list_any (λ rule. bytes_eq rule.name pair.name) rules
+
+-- no option is named twice
+abbrev pub are_distinct : List Pair → Bool
+are_distinct [] = true
+are_distinct (pair ∷ pairs) = not (list_any (λ other. bytes_eq other.name pair.name) pairs) && are_distinct pairs
+
+abbrev pub is_required : Absence → Bool
+is_required Required = true
+is_required other = false
+
+-- the option is given, where it has to be
+abbrev pub is_there : List Pair → OptionRule → Bool
+is_there pairs rule = not (is_required rule.absence) || is_some (given pairs rule.name)
+
+-- a command with these options takes the pairs
+abbrev pub takes : List OptionRule → List Pair → Bool
+takes rules pairs = list_all (is_known rules) pairs && (are_distinct pairs && list_all (is_there pairs) rules)
+
+abbrev pub default_of : Absence → Option (List ℕ)
+default_of (Default text) = Some text
+default_of other = None
+
+-- the value of an option: what is given, or else its default
+abbrev pub value_of : List Pair → OptionRule → Option (List ℕ)
+value_of pairs rule = option_or (given pairs rule.name) (default_of rule.absence)
+
+-- ---- values
+
+-- 1 to 20 decimal digits
+abbrev pub is_number : List ℕ → Bool
+is_number text = nat_le 1 (length text) && (nat_le (length text) 20 && list_all is_ascii_digit text)
+
+-- the number that a text writes, where it is one in this range
+abbrev pub number_in : (least most : ℕ) → List ℕ → Option ℕ
+number_in least most text =
+    if is_number text && (nat_le least (digits_value 10 text) && nat_le (digits_value 10 text) most)
+    then Some (digits_value 10 text) else None
+
+abbrev pub if_power_of_two : ℕ → Option ℕ
+if_power_of_two n = if is_power_of_two n then Some n else None
+
+-- the number that a text writes, where it is one that the option may have
+abbrev pub number_for : Kind → List ℕ → Option ℕ
+number_for (kind.Number least most) text = number_in least most text
+number_for (kind.PowerOfTwo least most) text = number_in least most text >>= if_power_of_two
+number_for other text = None
+
+-- ---- `solo`
+
+-- what `solo` is asked for
+pub record Solo : Type 0 where
+  pub source : List ℕ
+  pub garbler : Option (List ℕ)
+  pub evaluator : Option (List ℕ)
+  pub driver : Driver
+  pub limits : Limits
+
+abbrev pub solo_options : List OptionName
+solo_options = option.Source ∷ option.Garbler ∷ option.Evaluator ∷ option.Driver ∷ option.Page ∷ option.Frames
+    ∷ option.Buffer ∷ option.Ahead ∷ []
+
+-- frames and buffer hold at most 4,194,304 wires together
+abbrev pub if_within : Limits → Option Limits
+if_within limits = if nat_le ((limits.frames + limits.buffer) * limits.page) 4194304 then Some limits else None
+
+-- the driver of a name
+abbrev pub driver_of : List ℕ → Option Driver
+driver_of name = if bytes_eq name (codes "plain") then Some driver.Plain else None
+
+-- Below, `value` has the value of each option.
+module _ (value : OptionName → Option (List ℕ)) where
+  abbrev pub number : OptionName → Option ℕ
+  number name = value name >>= number_for (rule_of name).kind
+
+  unfoldable pub limits_of : Option Limits
+  limits_of = do
+    page ← number option.Page
+    frames ← number option.Frames
+    buffer ← number option.Buffer
+    ahead ← number option.Ahead
+    if_within (record { page = page; frames = frames; buffer = buffer; ahead = ahead })
+
+  unfoldable pub solo_of_values : Option Solo
+  solo_of_values = do
+    source ← value option.Source
+    driver ← value option.Driver >>= driver_of
+    limits ← limits_of
+    Some (record {
+      source = source;
+      garbler = value option.Garbler;
+      evaluator = value option.Evaluator;
+      driver = driver;
+      limits = limits;
+    })
+
+abbrev pub solo_rules : List OptionRule
+solo_rules = map rule_of solo_options
+
+-- what pairs ask `solo` for
+abbrev pub solo_of_pairs : List Pair → Option Solo
+solo_of_pairs pairs = if takes solo_rules pairs then solo_of_values (λ name. value_of pairs (rule_of name)) else None
+
+-- what the words ask for, where they are those of `solo`
+unfoldable pub solo_of : List (List ℕ) → Option Solo
+solo_of [] = None
+solo_of (command ∷ words) = if bytes_eq command (codes "solo") then pairs_of words >>= solo_of_pairs else None
+
+-- the words are the command's and then pairs
+abbrev pub are_words_of : List ℕ → List (List ℕ) → Bool
+are_words_of command [] = false
+are_words_of command (word ∷ words) = bytes_eq word command && is_some (pairs_of words)

@@ -1,0 +1,246 @@
+use super::{Driver, Solo, WordsFault, solo_words};
+use mage_instr::Limits;
+use std::alloc::{AllocError, Global};
+use std::process::Abort;
+use std::test::Fail;
+
+// The words of a line, which single spaces part.
+fn words_of(alloc: Global, line: &str) -> Result<Vec<String>, AllocError> {
+    let mut words = Vec::new(alloc);
+    for word in line.split(' ') {
+        words.push(String::from_str(alloc, word)?)?;
+    }
+    Ok(words)
+}
+
+fn refused(rt: &impl Abort, alloc: Global, lines: &[&str]) -> Result<(), Fail> {
+    for line in lines {
+        let words = words_of(alloc, line)?;
+        assert!(rt;
+            matches!(solo_words(alloc, &words), Err(WordsFault::Words)),
+            "{line}"
+        );
+    }
+    Ok(())
+}
+
+fn limits(page: u32, frames: u32, buffer: u16, ahead: u32) -> Limits {
+    Limits {
+        page,
+        frames,
+        buffer,
+        ahead,
+    }
+}
+
+// The lines ask for these limits of the source `s`, without input texts.
+fn limited(rt: &impl Abort, alloc: Global, cases: &[(&str, Limits)]) -> Result<(), Fail> {
+    for (line, limits) in cases {
+        let words = words_of(alloc, line)?;
+        let solo = solo_words(alloc, &words).ok().ok_or("refused")?;
+        assert_eq!(rt; solo.source, "s", "{line}");
+        assert!(rt;
+            solo.garbler.is_none() && solo.evaluator.is_none(),
+            "{line}"
+        );
+        assert!(rt; solo.driver == Driver::Plain, "{line}");
+        assert_eq!(rt; solo.limits, *limits, "{line}");
+    }
+    Ok(())
+}
+
+#[test]
+fn no_words(rt: HostRuntime) {
+    assert!(rt; matches!(solo_words(rt.alloc(), &[]), Err(WordsFault::Words)));
+}
+
+#[test]
+fn words_that_are_no_pairs(rt: HostRuntime) -> Result<(), Fail> {
+    refused(
+        &rt,
+        rt.alloc(),
+        &[
+            "",
+            "plans --source s",
+            "Solo --source s",
+            "--source s",
+            "solo --source",
+            "solo s",
+            "solo --source s --page",
+            "solo --source s t",
+            "solo --",
+            "solo -- s",
+            "solo --=x",
+            "solo --=x y",
+            "solo --source=x",
+            "solo --source=x y",
+            "solo --source s --page=64 64",
+            "solo - s",
+            "solo -source s",
+            "solo source s",
+            "solo ---source s",
+            "solo --source -s",
+            "solo --source --",
+            "solo --source -",
+            "solo --source ",
+            "solo --source s --garbler ",
+            "solo  --source s",
+        ],
+    )
+}
+
+#[test]
+fn options_that_it_does_not_take(rt: HostRuntime) -> Result<(), Fail> {
+    refused(
+        &rt,
+        rt.alloc(),
+        &[
+            "solo",
+            "solo --garbler g",
+            "solo --source s --source s",
+            "solo --source s --source t",
+            "solo --source s --garbler g --garbler g",
+            "solo --garbler g --source s --garbler h",
+            "solo --source s --page 64 --page 64",
+            "solo --source s --sources t",
+            "solo --source s --sourc t",
+            "solo --source s --Source t",
+            "solo --source s --out o",
+            "solo --source s --seed f",
+            "solo --source s --stream p",
+            "solo --source s --labels p",
+            "solo --source s --threads 1",
+            "solo --source s --help x",
+            "solo --help x",
+            "solo --version x",
+            "solo --source s --driver garble",
+            "solo --source s --driver eval",
+            "solo --source s --driver Plain",
+            "solo --source s --driver plain --driver plain",
+        ],
+    )
+}
+
+#[test]
+fn numbers_out_of_form_or_range(rt: HostRuntime) -> Result<(), Fail> {
+    refused(
+        &rt,
+        rt.alloc(),
+        &[
+            "solo --source s --page 0",
+            "solo --source s --page 32",
+            "solo --source s --page 63",
+            "solo --source s --page 65",
+            "solo --source s --page 100",
+            "solo --source s --page 65535",
+            "solo --source s --page 131072",
+            "solo --source s --page 64x",
+            "solo --source s --page +64",
+            "solo --source s --page 0x40",
+            "solo --source s --page 6_4",
+            "solo --source s --page 18446744073709551680",
+            "solo --source s --page 99999999999999999999",
+            "solo --source s --page 000000000000000000064",
+            "solo --source s --frames 0",
+            "solo --source s --frames 65537",
+            "solo --source s --frames 4294967297",
+            "solo --source s --buffer 4097",
+            "solo --source s --buffer 65544",
+            "solo --source s --ahead 1000001",
+            "solo --source s --ahead ten",
+            "solo --source s --page 65536 --frames 57",
+            "solo --source s --page 4096 --frames 1017",
+            "solo --source s --page 64 --frames 65536 --buffer 1",
+        ],
+    )
+}
+
+#[test]
+fn limits_and_defaults(rt: HostRuntime) -> Result<(), Fail> {
+    limited(
+        &rt,
+        rt.alloc(),
+        &[
+            ("solo --source s", limits(256, 64, 8, 64)),
+            ("solo --source s --driver plain", limits(256, 64, 8, 64)),
+            ("solo --source s --page 64", limits(64, 64, 8, 64)),
+            (
+                "solo --source s --page 00000000000000000064",
+                limits(64, 64, 8, 64),
+            ),
+            (
+                "solo --source s --page 65536 --frames 56",
+                limits(65_536, 56, 8, 64),
+            ),
+            (
+                "solo --source s --page 4096 --frames 1016",
+                limits(4_096, 1_016, 8, 64),
+            ),
+            ("solo --source s --frames 01", limits(256, 1, 8, 64)),
+            (
+                "solo --source s --page 64 --frames 65536 --buffer 0",
+                limits(64, 65_536, 0, 64),
+            ),
+            (
+                "solo --source s --page 64 --frames 65535 --buffer 1",
+                limits(64, 65_535, 1, 64),
+            ),
+            ("solo --source s --buffer 4096", limits(256, 64, 4_096, 64)),
+            ("solo --source s --ahead 0", limits(256, 64, 8, 0)),
+            (
+                "solo --source s --ahead 1000000",
+                limits(256, 64, 8, 1_000_000),
+            ),
+        ],
+    )
+}
+
+// All options, as words.
+const ALL: [&str; 16] = [
+    "--source",
+    "s=1",
+    "--garbler",
+    "g",
+    "--evaluator",
+    "e-",
+    "--driver",
+    "plain",
+    "--page",
+    "128",
+    "--frames",
+    "3",
+    "--buffer",
+    "2",
+    "--ahead",
+    "5",
+];
+
+// The pairs from pair `first` on, round to the one before it, forwards or backwards.
+fn turned(alloc: Global, first: usize, backwards: bool) -> Result<Vec<String>, AllocError> {
+    let mut words = Vec::new(alloc);
+    words.push(String::from_str(alloc, "solo")?)?;
+    for turn in 0..8usize {
+        let pair = if backwards {
+            first % 8 + 8 - turn
+        } else {
+            first % 8 + turn
+        } % 8;
+        words.push(String::from_str(alloc, ALL[2 * pair])?)?;
+        words.push(String::from_str(alloc, ALL[2 * pair + 1])?)?;
+    }
+    Ok(words)
+}
+
+#[test]
+fn options_in_any_order(rt: HostRuntime) -> Result<(), Fail> {
+    for first in 0..8usize {
+        for backwards in [false, true] {
+            let words = turned(rt.alloc(), first, backwards)?;
+            let solo = solo_words(rt.alloc(), &words).ok().ok_or("refused")?;
+            assert_eq!(rt; solo.source, "s=1");
+            assert!(rt; solo.garbler == Some("g") && solo.evaluator == Some("e-"));
+            assert!(rt; solo.limits == limits(128, 3, 2, 5));
+        }
+    }
+    Ok(())
+}
