@@ -46,11 +46,7 @@ fn fetch_source<D: Desk>(alloc: Global, desk: &mut D, name: &str) -> Result<Vec<
 }
 
 // The bytes of an input text: of the file, where one is named.
-fn fetch_input<D: Desk>(
-    alloc: Global,
-    desk: &mut D,
-    name: Option<&str>,
-) -> Result<Vec<u8>, Status>
+fn fetch_input<D: Desk>(alloc: Global, desk: &mut D, name: Option<&str>) -> Result<Vec<u8>, Status>
     ensures told { IfSome (D.files desk.old) (λ files.
         Gives (λ bytes. bytes.items) result (bytes_or Status.InputText (file_named files (option_map (λ n. n.now) name.entry) 67108864))) }
     ensures refusal { IfErr result (IsFetchRefusal Status.InputText) }

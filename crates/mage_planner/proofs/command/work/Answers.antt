@@ -23,7 +23,6 @@ returns-in_err-loaded-clause-some g c =
     let some = c.in_err-loaded.ensures.some in
     (only_source some.0, rw (p.1, p.2) (work-source (bytes_of_words c.args.words.now) (solo_view c.in_ok-solo.solo) some.0 c.in_err-loaded.field-0.0 solo some.1))
 
-
 pub returns-in_err-garbler-clause-some : goal.returns-in_err-garbler-clause-some
 returns-in_err-garbler-clause-some g c =
     let p = err_from_is_err_and c.from_residual-in_err-garbler.result c.from_residual-in_err-garbler.ensures.1 in
@@ -31,7 +30,6 @@ returns-in_err-garbler-clause-some g c =
     let source = c.in_ok-loaded.ensures.some in
     let garbler = c.in_err-garbler.ensures.some in
     (source_garbler source.0 garbler.0, rw (p.1, p.2) (work-garbler (bytes_of_words c.args.words.now) (solo_view c.in_ok-solo.solo) source.0 garbler.0 c.in_ok-loaded.loaded c.in_err-garbler.field-0.0 solo source.1 garbler.1))
-
 
 pub returns-in_err-evaluator-clause-some : goal.returns-in_err-evaluator-clause-some
 returns-in_err-evaluator-clause-some g c =
@@ -41,7 +39,6 @@ returns-in_err-evaluator-clause-some g c =
     let garbler = c.in_ok-garbler.ensures.some in
     let evaluator = c.in_err-evaluator.ensures.some in
     (all_three source.0 garbler.0 evaluator.0, rw (p.1, p.2) (work-evaluator (bytes_of_words c.args.words.now) (solo_view c.in_ok-solo.solo) source.0 garbler.0 evaluator.0 c.in_ok-loaded.loaded _ c.in_err-evaluator.field-0.0 solo source.1 garbler.1 evaluator.1))
-
 
 pub returns-clause-some : goal.returns-clause-some
 returns-clause-some g c =
