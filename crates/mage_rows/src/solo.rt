@@ -2,6 +2,7 @@
 use crate::cases::{SUM, WORDS, check, desk_with, owned, refused, said};
 use mage_base::{DeskFails, Items};
 use mage_planner::{Status, planner};
+use std::alloc::{AllocError, Global};
 use std::test::Fail;
 
 #[test]
