@@ -30,7 +30,8 @@ IsNoFault (Err errors.TooLong) = Unit {0}
 IsNoFault (Err errors.Fault) = ⊥
 IsNoFault (Err errors.Memory) = Unit {0}
 
--- what is said after a call of `say`: all of the bytes more, or after a fault a front of them
+-- what is said after a call of `say`, and warned after one of `warn`: all of the bytes more, or after a fault a front
+-- of them
 abbrev pub Said : {T E : Type 0} → Result T E → List ℕ → List ℕ → List ℕ → Type 0
 Said (Ok _) before bytes now = now ≡ before ++ bytes
 Said (Err _) before bytes now = (n : ℕ) × (now ≡ before ++ take n bytes)

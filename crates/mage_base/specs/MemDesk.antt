@@ -8,11 +8,13 @@ use Rattle.mage_base.specs.Desk.{Files}
 use Rattle.mage_base.specs.DeskFails.{lists_nothing}
 use Rattle.mage_base.specs.Faults.{next_count}
 
--- what a desk in memory holds: the names and bytes of its files, what was said and the room for that in all, the
--- counts of faults and of calls, the numbers of the calls that are to fail, and whether nothing is listed to fail
+-- what a desk in memory holds: the names and bytes of its files, what was said and what was warned, the room for each
+-- of the two in all, the counts of faults and of calls, the numbers of the calls that are to fail, and whether nothing is
+-- listed to fail
 pub record DeskState : Type 0 where
   pub files : List (List ℕ × List ℕ)
   pub said : List ℕ
+  pub warned : List ℕ
   pub said_room : ℕ
   pub faults : ℕ
   pub calls : ℕ
@@ -35,11 +37,16 @@ with_file files name bytes other = if bytes_eq name other then Some bytes else f
 abbrev pub room_of : DeskState → ℕ
 room_of desk = desk.said_room - length desk.said
 
--- a desk without a file, on which nothing was said yet
+-- how many bytes may still be warned
+abbrev pub warn_room_of : DeskState → ℕ
+warn_room_of desk = desk.said_room - length desk.warned
+
+-- a desk without a file, on which nothing was said or warned yet
 abbrev pub empty_desk : ℕ → DeskFails → DeskState
 empty_desk said_room fails = record {
   files = [];
   said = [];
+  warned = [];
   said_room = said_room;
   faults = 0;
   calls = 0;
@@ -58,6 +65,10 @@ cannot_fetch desk name = is_listed desk || is_none (files_of desk name)
 -- whether saying these bytes fails
 abbrev pub cannot_say : DeskState → List ℕ → Bool
 cannot_say desk bytes = is_listed desk || nat_lt (room_of desk) (length bytes)
+
+-- whether warning these bytes fails
+abbrev pub cannot_warn : DeskState → List ℕ → Bool
+cannot_warn desk bytes = is_listed desk || nat_lt (warn_room_of desk) (length bytes)
 
 -- the desk after one more call
 abbrev pub after_call : DeskState → DeskState
@@ -80,3 +91,13 @@ abbrev pub after_say : DeskState → List ℕ → DeskState
 after_say desk bytes =
     let called = if cannot_say desk bytes then after_fault (after_call desk) else after_call desk
     in record called { said = desk.said ++ part_said desk bytes }
+
+-- what is warned of these bytes: nothing by a call that is to fail, and else what fits
+abbrev pub part_warned : DeskState → List ℕ → List ℕ
+part_warned desk bytes = if is_listed desk then [] else take (warn_room_of desk) bytes
+
+-- the desk after warning these bytes
+abbrev pub after_warn : DeskState → List ℕ → DeskState
+after_warn desk bytes =
+    let called = if cannot_warn desk bytes then after_fault (after_call desk) else after_call desk
+    in record called { warned = desk.warned ++ part_warned desk bytes }

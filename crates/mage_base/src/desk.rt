@@ -23,6 +23,12 @@ pub trait Desk {
     /// How many bytes may still be said on a steady desk.
     ghost room: { Self → ℕ };
 
+    /// The bytes warned so far, where the desk tells them.
+    ghost warned: { Self → Option (List ℕ) };
+
+    /// How many bytes may still be warned on a steady desk.
+    ghost warn_room: { Self → ℕ };
+
     /// The bytes of the file with this name, of which there are at most `limit`.
     ///
     /// `TooLong` where the file is longer, `Fault` where there is no such file or the desk failed, and `Memory`
@@ -37,7 +43,9 @@ pub trait Desk {
         ensures files { files self.new ≡ files self.old }
         ensures said { said self.new ≡ said self.old }
         ensures steady { steady self.new ≡ steady self.old }
-        ensures room { room self.new ≡ room self.old };
+        ensures room { room self.new ≡ room self.old }
+        ensures warned { warned self.new ≡ warned self.old }
+        ensures warn_room { warn_room self.new ≡ warn_room self.old };
 
     /// Says the bytes. After `Failed` some front of them is said.
     fn say(&mut self, bytes: &[u8]) -> Result<(), Failed>
@@ -47,5 +55,19 @@ pub trait Desk {
         ensures room { IsTrue (steady self.old) → OnOk result (room self.new + length bytes.now ≡ room self.old) }
 
         ensures files { files self.new ≡ files self.old }
-        ensures steady { steady self.new ≡ steady self.old };
+        ensures steady { steady self.new ≡ steady self.old }
+        ensures warned { warned self.new ≡ warned self.old }
+        ensures warn_room { warn_room self.new ≡ warn_room self.old };
+
+    /// Tells the user what went wrong, apart from what is said. After `Failed` some front of the bytes is warned.
+    fn warn(&mut self, bytes: &[u8]) -> Result<(), Failed>
+        ensures warned { IfSome (warned self.old) (λ before. IsSomeAnd (warned self.new) (Said result before bytes.now)) }
+        ensures cause { Counted (faults self.old) (faults self.new) result }
+        ensures steady_warns { IsTrue (steady self.old) → length bytes.now ≤ warn_room self.old → IsOk result }
+        ensures warn_room { IsTrue (steady self.old) → OnOk result (warn_room self.new + length bytes.now ≡ warn_room self.old) }
+
+        ensures files { files self.new ≡ files self.old }
+        ensures said { said self.new ≡ said self.old }
+        ensures steady { steady self.new ≡ steady self.old }
+        ensures room { room self.new ≡ room self.old };
 }

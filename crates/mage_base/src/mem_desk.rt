@@ -1,7 +1,7 @@
-ghost use Rattle.std.specs.Prelude.{◌≡◌, ◌≤◌, ◌↔◌, length, IsTrue, IfOk, OnOk, OnErr, IsErr, IsSomeAnd, IsOk, IsSome, Some, false};
+ghost use Rattle.std.specs.Prelude.{◌≡◌, ◌≤◌, ◌↔◌, ◌-◌, ◌++◌, nat_le, length, take, vec_len, vec_capacity, IsTrue, IfOk, OnOk, OnErr, IsErr, IsSomeAnd, IsOk, IsSome, Some, false};
 ghost use Rattle.mage_base.specs.Desk.{Fetched, FetchCounted, IsNoFault};
 ghost use Rattle.mage_base.specs.Faults.{Counted};
-ghost use Rattle.mage_base.specs.MemDesk.{files_of, with_file, room_of, empty_desk, is_listed, cannot_fetch, cannot_say, after_call, after_fault, after_fetch, after_say};
+ghost use Rattle.mage_base.specs.MemDesk.{files_of, with_file, room_of, warn_room_of, empty_desk, is_listed, cannot_fetch, cannot_say, cannot_warn, after_call, after_fault, after_fetch, after_say, after_warn};
 
 use crate::{Desk, DeskError, DeskFails, Failed, Items, Memory};
 use std::alloc::Global;
@@ -15,11 +15,12 @@ use file_table::FileTable;
 mod tests;
 
 /// A desk in memory, which tells everything. Calls can be made to fail by their numbers, counted from 0 over the
-/// calls of `fetch` and `say` alike.
+/// calls of `fetch`, `say` and `warn` alike.
 #[derive(Drop)]
 pub struct MemDesk {
     files: FileTable,
     said: Vec<u8>,
+    warned: Vec<u8>,
     said_room: usize,
     faults: u64,
     calls: u64,
@@ -36,6 +37,7 @@ impl Model for MemDesk {
     ghost view = { λ desk. record {
       files = desk.files;
       said = desk.said.items;
+      warned = desk.warned.items;
       said_room = desk.said_room;
       faults = desk.faults;
       calls = desk.calls;
@@ -43,20 +45,22 @@ impl Model for MemDesk {
       steady = desk.steady;
     } };
 
-    // The room for what is said is taken, and on a steady desk no call is to fail.
+    // The room for what is said and for what is warned is taken, and on a steady desk no call is to fail.
     ghost invariant = { λ desk. (vec_len desk.said ≤ desk.said_room) × (desk.said_room ≤ vec_capacity desk.said)
+        × (vec_len desk.warned ≤ desk.said_room) × (desk.said_room ≤ vec_capacity desk.warned)
         × (IsTrue desk.steady → desk.failing ≡ []) };
 }
 
 impl MemDesk {
-    /// A desk without a file, with room for `said_room` bytes to be said. All of the room is taken here, so no
-    /// `say` wants memory.
+    /// A desk without a file, with room for `said_room` bytes to be said and as many to be warned. All of the room is
+    /// taken here, so no `say` and no `warn` wants memory.
     pub fn make(alloc: Global, said_room: u64, fails: &DeskFails) -> Result<MemDesk, Memory>
         ensures { IfOk result (λ desk. desk ≡ empty_desk said_room fails.now) }
     {
         Ok(MemDesk {
             files: FileTable::new(alloc),
             said: Vec::with_capacity(alloc, said_room as usize)?,
+            warned: Vec::with_capacity(alloc, said_room as usize)?,
             said_room: said_room as usize,
             faults: 0,
             calls: 0,
@@ -82,6 +86,13 @@ impl MemDesk {
         self.said.as_slice()
     }
 
+    /// What was warned so far.
+    pub fn warned(&self) -> &[u8]
+        ensures { result.now ≡ self.now.warned }
+    {
+        self.warned.as_slice()
+    }
+
     /// Counts one more call, and tells whether it is one that is to fail.
     fn begin(&mut self) -> bool
         ensures listed { result ≡ is_listed self.old }
@@ -101,6 +112,20 @@ impl MemDesk {
     }
 }
 
+// Adds what fits of the bytes to a list with this room, and tells whether they all did.
+fn add_within(list: &mut Vec<u8>, room: usize, bytes: &[u8]) -> bool
+    requires within { vec_len list.old ≤ room }
+    requires taken { room ≤ vec_capacity list.old }
+    ensures all { result ≡ nat_le (length bytes.now) (room - length list.old.items) }
+    ensures items { list.new.items ≡ list.old.items ++ take (room - length list.old.items) bytes.now }
+    ensures within { vec_len list.new ≤ room }
+    ensures taken { room ≤ vec_capacity list.new }
+{
+    let fits = bytes.len().min(room - list.len());
+    list.extend_from_slice(&bytes[..fits]).unwrap();
+    fits == bytes.len()
+}
+
 impl Desk for MemDesk {
     ghost files = { λ desk. Some (files_of desk) };
 
@@ -111,6 +136,10 @@ impl Desk for MemDesk {
     ghost steady = { λ desk. desk.steady };
 
     ghost room = { room_of };
+
+    ghost warned = { λ desk. Some desk.warned };
+
+    ghost warn_room = { warn_room_of };
 
     fn fetch(&mut self, alloc: Global, name: &str, limit: u64) -> Result<Vec<u8>, DeskError>
         ensures found { Fetched (files_of self.old name.now) limit result }
@@ -144,13 +173,21 @@ impl Desk for MemDesk {
         ensures failed { IsErr result ↔ IsTrue (cannot_say self.old bytes.now) }
         ensures after { self.new ≡ after_say self.old bytes.now }
     {
-        if self.begin() {
+        if self.begin() || !add_within(&mut self.said, self.said_room, bytes) {
             self.count_fault();
             return Err(Failed);
         }
-        let fits = bytes.len().min(self.said_room - self.said.len());
-        self.said.extend_from_slice(&bytes[..fits]).unwrap();
-        if fits < bytes.len() {
+        Ok(())
+    }
+
+    fn warn(&mut self, bytes: &[u8]) -> Result<(), Failed>
+        ensures cause { Counted self.old.faults self.new.faults result }
+        ensures steady_warns { IsTrue self.old.steady → length bytes.now ≤ warn_room_of self.old → IsOk result }
+
+        ensures failed { IsErr result ↔ IsTrue (cannot_warn self.old bytes.now) }
+        ensures after { self.new ≡ after_warn self.old bytes.now }
+    {
+        if self.begin() || !add_within(&mut self.warned, self.said_room, bytes) {
             self.count_fault();
             return Err(Failed);
         }

@@ -25,6 +25,11 @@ fn say_by<D: Desk>(desk: &mut D, bytes: &[u8]) -> Result<(), Failed> {
     desk.say(bytes)
 }
 
+// Warns through the trait.
+fn warn_by<D: Desk>(desk: &mut D, bytes: &[u8]) -> Result<(), Failed> {
+    desk.warn(bytes)
+}
+
 #[test]
 fn fetches_what_is_there(rt: HostRuntime) -> Result<(), Fail> {
     let alloc = rt.alloc();
@@ -79,6 +84,42 @@ fn says_what_fits(rt: HostRuntime) -> Result<(), Fail> {
         assert_eq!(rt; say_by(&mut desk, second.as_bytes()), want, "{second}");
         assert_eq!(rt; desk.said(), said.as_bytes(), "{second}");
         assert_eq!(rt; desk.faults, faults, "{second}");
+    }
+    Ok(())
+}
+
+// What is warned has room of its own.
+#[test]
+fn warns_what_fits(rt: HostRuntime) -> Result<(), Fail> {
+    let alloc = rt.alloc();
+    let rows = [
+        ("", Ok(()), "a", 0),
+        ("bcd", Ok(()), "abcd", 0),
+        ("bcdefg", Err(Failed), "abcd", 1),
+    ];
+    for (second, want, warned, faults) in rows {
+        let mut desk = desk_with(alloc, &[])?;
+        say_by(&mut desk, b"wxyz")?;
+        warn_by(&mut desk, b"a")?;
+        assert_eq!(rt; warn_by(&mut desk, second.as_bytes()), want, "{second}");
+        assert_eq!(rt; desk.warned(), warned.as_bytes(), "{second}");
+        assert_eq!(rt; desk.said(), b"wxyz".as_slice(), "{second}");
+        assert_eq!(rt; desk.faults, faults, "{second}");
+    }
+    Ok(())
+}
+
+// Warnings are counted among the calls.
+#[test]
+fn fails_to_warn_where_listed(rt: HostRuntime) -> Result<(), Fail> {
+    let alloc = rt.alloc();
+    for (listed, warned, said) in [(0, "b", "x"), (1, "ab", ""), (2, "a", "x"), (3, "ab", "x")] {
+        let mut desk = desk_with(alloc, &[listed])?;
+        assert_eq!(rt; warn_by(&mut desk, b"a").is_ok(), listed != 0, "{listed}");
+        assert_eq!(rt; say_by(&mut desk, b"x").is_ok(), listed != 1, "{listed}");
+        assert_eq!(rt; warn_by(&mut desk, b"b").is_ok(), listed != 2, "{listed}");
+        assert_eq!(rt; desk.warned(), warned.as_bytes(), "{listed}");
+        assert_eq!(rt; desk.said(), said.as_bytes(), "{listed}");
     }
     Ok(())
 }
