@@ -1,3 +1,4 @@
 pub mod Opcodes
 pub mod Sound
 pub mod Trace
+pub mod Limits
