@@ -19,8 +19,6 @@ pub mod FollowStatements
 pub mod Room
 pub mod Viable
 pub mod FirstWrong
-pub mod WidthLemmas
-pub mod FirstLemmas
 pub mod Opened
 pub mod Making
 pub mod Spelled

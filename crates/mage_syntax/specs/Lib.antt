@@ -8,9 +8,6 @@ pub mod Expressions
 pub mod Statements
 pub mod Faults
 pub mod Words
-pub mod Widths
-pub mod Answer
-pub mod First
 pub mod Printed
 pub mod Made
 pub mod Depth

@@ -5,7 +5,6 @@ mod laws;
 mod parser;
 mod printer;
 mod source;
-mod sums;
 mod tree;
 mod words;
 
@@ -13,7 +12,6 @@ pub use laws::{depth_of_room, one_answer, one_tree, stops_at_first_wrong};
 pub use parser::parse;
 pub use printer::print;
 pub use source::Source;
-pub use sums::{FirstFault, first};
 pub use tree::{ConstExpr, Expr, Item, Stmt};
 pub use words::{bytes_of, width_of_type};
 
