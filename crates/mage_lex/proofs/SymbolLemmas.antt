@@ -3,12 +3,17 @@ use Rattle.std.proofs.Common.{◌≡◌, ℕ, zero, suc, ◌<◌, ◌≤◌, Boo
 use Rattle.std.specs.Prelude.{Option, Some, None, position, slice_get, unwrap_or, nat_lt, nat_eq}
 use Rattle.std.specs.List.{starts_with, position_or_len, list_all}
 use Rattle.std.proofs.lemmas.List.Sums.{passes_at_first}
-use Rattle.std.proofs.lemmas.Option.{unwrap_or-slice_get}
+use Rattle.std.proofs.lemmas.Option.{unwrap_or-slice_get, slice_get_past}
 use Rattle.std.proofs.lemmas.Bool.Decides.{Decides-eqb, nat_tests}
 use Rattle.std.proofs.lemmas.Slice.Eq.{starts_is}
 use Rattle.std.proofs.Math.Seq.{take-append_seam}
 use Rattle.mage_lex.specs.Symbols.{symbols, symbol_row, symbol_bytes}
 use Rattle.mage_lex.specs.Tokens.{size_of, symbol_of}
+
+-- a row that no symbol has
+pub no_symbol : (row : ℕ) → 24 ≤ row → symbol_bytes row ≡ []
+unfolding symbol_bytes
+no_symbol row h = ap (λ found. unwrap_or found []) (slice_get_past symbols row h)
 
 position_cases : (p : List ℕ → Bool) (xs : List (List ℕ)) (row : ℕ) (found : Bool) → nat_lt (position_or_len p xs) (length xs) ≡ found → cond found (Some (position_or_len p xs)) None ≡ Some row → (row < length xs) × (p (unwrap_or (slice_get xs row) []) ≡ true)
 position_cases p xs row true t e =

@@ -8,15 +8,10 @@ ghost use Rattle.mage_lex.specs.Symbols.{symbol_row, symbol_bytes};
 ghost use Rattle.mage_lex.specs.Tokens.{front_of, size_of, word_of, number_from, number_of, symbol_of};
 
 use crate::piece::Piece;
+use crate::symbols::{SYMBOLS, symbol_text};
 use crate::{LangKind, Text, TokenKind};
 use mage_base::Memory;
 use std::alloc::Global;
-
-// The symbols by row: those of two bytes stand before those of one, so the first that fits is the longest.
-const SYMBOLS: [&str; 24] = [
-    "..", "==", "<<", ">>", ";", ":", ",", "(", ")", "[", "]", "{", "}", "=", "<", "+", "-", "*",
-    "/", "%", "&", "^", "|", "!",
-];
 
 // No number is as large.
 const NUMBER_LIMIT: u128 = 1 << 127;
@@ -156,19 +151,10 @@ fn first_symbol(symbols: &[&str], text: &[u8]) -> Option<usize>
 }
 
 #[tactic(auto, unfolding(crate::specs::Symbols::symbol_row))]
-fn symbol_row(text: &[u8]) -> Option<usize>
-    ensures row { result ≡ symbol_row text.now }
-    ensures within { IfSome result (λ row. row < 24) }
+fn symbol_row(text: &[u8]) -> Option<u8>
+    ensures { result ≡ symbol_row text.now }
 {
-    first_symbol(&SYMBOLS, text)
-}
-
-#[tactic(auto, unfolding(crate::specs::Symbols::symbol_bytes))]
-fn symbol_len(row: usize) -> usize
-    requires { row < 24 }
-    ensures { result ≡ length (symbol_bytes row) }
-{
-    SYMBOLS[row].len()
+    Some(first_symbol(&SYMBOLS, text)? as u8)
 }
 
 // The symbol at the front.
@@ -176,7 +162,7 @@ fn symbol(text: &[u8]) -> Piece
     ensures { result ≡ symbol_of (symbol_row text.now) }
 {
     match symbol_row(text) {
-        Some(row) => Piece::Lexeme(TokenKind::Symbol(row as u8), symbol_len(row)),
+        Some(row) => Piece::Lexeme(TokenKind::Symbol(row), symbol_text(row).len()),
         None => Piece::Bad(LangKind::BadByte),
     }
 }

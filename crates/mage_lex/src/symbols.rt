@@ -1,4 +1,24 @@
 //! The symbols of the language, each by its row.
+ghost use Rattle.std.specs.Prelude.{◌≡◌};
+ghost use Rattle.mage_lex.specs.Symbols.{symbol_bytes};
+
+// The symbols by row: those of two bytes stand before those of one, so the first that fits is the longest.
+pub(crate) const SYMBOLS: [&str; 24] = [
+    "..", "==", "<<", ">>", ";", ":", ",", "(", ")", "[", "]", "{", "}", "=", "<", "+", "-", "*",
+    "/", "%", "&", "^", "|", "!",
+];
+
+/// How the symbol of this row is spelled. A row that no symbol has, 24 or more, has the empty text.
+#[tactic(auto, using(crate::proofs::SymbolLemmas::no_symbol), unfolding(crate::specs::Symbols::symbol_bytes))]
+pub fn symbol_text(row: u8) -> &'static str
+    ensures { result.now ≡ symbol_bytes row }
+{
+    if row < 24 {
+        SYMBOLS[usize::from(row)]
+    } else {
+        ""
+    }
+}
 
 /// `..`
 pub const DOTS: u8 = 0;

@@ -4,12 +4,16 @@ use crate::{
 };
 use std::alloc::Global;
 
+fn is_kind_of_symbol(kind: &TokenKind, row: u8) -> bool {
+    match kind {
+        TokenKind::Symbol(found) => *found == row,
+        _ => false,
+    }
+}
+
 fn is_symbol(tokens: &[Token], row: u8) -> bool {
     match tokens {
-        [token] => match &token.kind {
-            TokenKind::Symbol(found) => *found == row,
-            _ => false,
-        },
+        [token] => is_kind_of_symbol(&token.kind, row),
         _ => false,
     }
 }
@@ -148,6 +152,50 @@ fn reads_numbers(rt: HostRuntime) -> Result<(), LangFault> {
     Ok(())
 }
 
+// Whether the tokens are the symbols of these rows.
+fn are_symbols(tokens: &[Token], rows: &[u8]) -> bool {
+    tokens.len() == rows.len()
+        && tokens
+            .iter()
+            .zip(rows.iter())
+            .all(|pair| is_kind_of_symbol(&pair.0.kind, *pair.1))
+}
+
+#[test]
+fn takes_the_longest_symbol(rt: HostRuntime) -> Result<(), LangFault> {
+    use symbols::{ASSIGN, DOTS, EQUALS, LESS, SHIFT_LEFT, SHIFT_RIGHT};
+    let rows: [(&[u8], &[u8]); 8] = [
+        (b"..", &[DOTS]),
+        (b"....", &[DOTS, DOTS]),
+        (b"==", &[EQUALS]),
+        (b"===", &[EQUALS, ASSIGN]),
+        (b"= =", &[ASSIGN, ASSIGN]),
+        (b"<<", &[SHIFT_LEFT]),
+        (b"<<<>>", &[SHIFT_LEFT, LESS, SHIFT_RIGHT]),
+        (b"< <=", &[LESS, LESS, ASSIGN]),
+    ];
+    for (text, wanted) in rows {
+        assert!(rt; are_symbols(&lex(rt.alloc(), text)?, wanted), "rows");
+    }
+    Ok(())
+}
+
+#[test]
+fn spells_each_symbol(rt: HostRuntime) -> Result<(), LangFault> {
+    for row in 0..24 {
+        let text = symbols::symbol_text(row);
+        assert!(rt;
+            is_symbol(&lex(rt.alloc(), text.as_bytes())?, row),
+            "row {row}"
+        );
+    }
+    assert_eq!(rt; symbols::symbol_text(symbols::DOTS), "..");
+    assert_eq!(rt; symbols::symbol_text(symbols::NOT), "!");
+    assert_eq!(rt; symbols::symbol_text(24), "");
+    assert_eq!(rt; symbols::symbol_text(255), "");
+    Ok(())
+}
+
 // How many tokens the text has, or what is wrong with it.
 fn outcome(alloc: Global, text: &[u8]) -> Result<usize, LangFault> {
     Ok(lex(alloc, text)?.len())
@@ -155,8 +203,10 @@ fn outcome(alloc: Global, text: &[u8]) -> Result<usize, LangFault> {
 
 #[test]
 fn cuts_texts(rt: HostRuntime) {
-    let rows: [(&[u8], usize); 9] = [
+    let rows: [(&[u8], usize); 11] = [
         (b"", 0),
+        (b"a // the end", 1),
+        (b"a\n//", 1),
         (b" \t\r\n", 0),
         (b"a//b c", 1),
         (b"//", 0),

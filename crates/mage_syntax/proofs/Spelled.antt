@@ -1,17 +1,16 @@
 -- Tokens as they are spelled, and what the lexer makes of them.
-use Rattle.std.proofs.Common.{◌≡◌, ℕ, zero, suc, ◌+◌, ◌-◌, ◌<◌, ◌≤◌, ◌^◌, Bool, true, false, ◌&&◌, ◌||◌, ◌==◌, cond, List, [], ◌∷◌, ◌++◌, length, take, drop, refl, ap, ◌∙◌, append_assoc, arith}
-use Rattle.std.specs.Prelude.{Ok, unwrap_or, nat_eq, nat_le, All, codes}
+use Rattle.std.proofs.Common.{◌≡◌, ℕ, zero, suc, ◌+◌, ◌-◌, ◌<◌, ◌^◌, Bool, true, false, ◌&&◌, ◌||◌, ◌==◌, cond, List, [], ◌∷◌, ◌++◌, length, take, drop, refl, ap, ◌∙◌, append_assoc, arith}
+use Rattle.std.specs.Prelude.{Ok, nat_eq, nat_le, All, codes}
 use Rattle.std.specs.List.{list_all, prefix_len, take_while, starts_with}
 use Rattle.std.specs.Char.{is_ascii_digit}
 use Rattle.std.specs.Str.Parse.{AllDigits, digits_value}
 use Rattle.std.specs.Fmt.{decimal}
-use Rattle.std.proofs.lemmas.Option.{slice_get_past}
 use Rattle.std.proofs.lemmas.Bool.Decides.{nat_tests}
 use Rattle.std.proofs.lemmas.Str.Parse.{digit_from_value}
 use Rattle.std.proofs.lemmas.Fmt.{decimal_is_IsNumeral_wide}
 use Rattle.std.proofs.Math.Seq.{take-append_seam, drop-append_seam}
 use Rattle.mage_lex.specs.Bytes.{is_blank, is_letter, is_in_word}
-use Rattle.mage_lex.specs.Symbols.{symbols, symbol_row, symbol_bytes}
+use Rattle.mage_lex.specs.Symbols.{symbol_row, symbol_bytes}
 use Rattle.mage_lex.specs.Places.{place_after}
 use Rattle.mage_lex.specs.declared.piece.Piece.TheVariants as piece
 use Rattle.mage_lex.specs.declared.token.Token.{Token}
@@ -22,10 +21,6 @@ use Rattle.mage_lex.proofs.TokenLemmas.{tokens_step}
 use Rattle.mage_syntax.specs.Sources.{IsTokenKind, kinds_of}
 use Rattle.mage_syntax.specs.Printed.{spelling, separator, written}
 use Rattle.mage_syntax.specs.Made.{tokens_made}
-
-pub no_symbol : (row : ℕ) → 24 ≤ row → symbol_bytes row ≡ []
-unfolding symbol_bytes
-no_symbol row h = ap (λ found. unwrap_or found []) (slice_get_past symbols row h)
 
 first_holds : (a b : Bool) → (a && b) ≡ true → a ≡ true
 first_holds true b e = refl

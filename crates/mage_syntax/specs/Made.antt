@@ -124,19 +124,24 @@ unfoldable pub else_made : {A : Type 0} → (TokenKind → List A) → (Stmt →
 else_made put inner None = []
 else_made put inner (Some body) = put (kinds.Word (codes "else")) ++ block_made put inner body
 
+-- of a statement without blocks
+abbrev pub simple_made : {A : Type 0} → (TokenKind → List A) → Stmt-F Stmt → List A
+simple_made put (Stmt-F.Constant word name value) = constant_made put word name value
+simple_made put (Stmt-F.Input word party name ty size) = input_made put word party name ty size
+simple_made put (Stmt-F.Let word name value) = let_made put word name value
+simple_made put (Stmt-F.Array word name ty size eq value) = array_made put word name ty size eq value
+simple_made put (Stmt-F.Assign place eq value) = assign_made put place eq value
+simple_made put (Stmt-F.Move word name place) = move_made put word name place
+simple_made put (Stmt-F.Output word value) = output_made put word value
+simple_made put with_blocks = []
+
 abbrev pub stmt_layer : {A : Type 0} → (TokenKind → List A) → (Stmt → List A) → Stmt-F Stmt → List A
-stmt_layer put inner (Stmt-F.Constant word name value) = constant_made put word name value
-stmt_layer put inner (Stmt-F.Input word party name ty size) = input_made put word party name ty size
-stmt_layer put inner (Stmt-F.Let word name value) = let_made put word name value
-stmt_layer put inner (Stmt-F.Array word name ty size eq value) = array_made put word name ty size eq value
-stmt_layer put inner (Stmt-F.Assign place eq value) = assign_made put place eq value
-stmt_layer put inner (Stmt-F.Move word name place) = move_made put word name place
 stmt_layer put inner (Stmt-F.On word worker body) =
     put word.kind ++ const_made put 404 worker ++ block_made put inner body
 stmt_layer put inner (Stmt-F.For word name from to body) = for_made put word name from to ++ block_made put inner body
 stmt_layer put inner (Stmt-F.If word left op right body other) =
     if_made put word left op right ++ block_made put inner body ++ else_made put inner other
-stmt_layer put inner (Stmt-F.Output word value) = output_made put word value
+stmt_layer put inner simple = simple_made put simple
 
 -- of a statement
 unfoldable pub stmt_made : {A : Type 0} → (TokenKind → List A) → ℕ → Stmt → List A

@@ -141,6 +141,7 @@ fn not_at(alloc: Global, tokens: &[Token], room: u32) -> Result<(Expr, &[Token])
 }
 
 // An operand: what it is, is seen from its first token.
+#[inline(never)]
 #[cycle(expressions)]
 #[tactic(auto, unfolding(crate::specs::Expressions::unary_at))]
 fn unary_at(alloc: Global, tokens: &[Token], room: u32) -> Result<(Expr, &[Token]), Stop>
@@ -221,6 +222,7 @@ fn chain_of(alloc: Global, first: Expr, rest: Items<(Token, Expr)>) -> Result<Ex
 }
 
 // One level of operators in any number.
+#[inline(never)]
 #[cycle(expressions)]
 #[tactic(auto, unfolding(crate::specs::Expressions::chain_at))]
 fn chain_at(
@@ -250,6 +252,7 @@ fn shift_of(alloc: Global, first: Expr, rest: Items<(Token, ConstExpr)>) -> Resu
 }
 
 // Shifts.
+#[inline(never)]
 #[cycle(expressions)]
 #[tactic(auto, unfolding(crate::specs::Expressions::shift_at))]
 fn shift_at(alloc: Global, tokens: &[Token], room: u32) -> Result<(Expr, &[Token]), Stop>
@@ -271,6 +274,7 @@ fn comparison(alloc: Global, first: Expr, op: Token, second: Expr) -> Result<Exp
 }
 
 // One comparison at most.
+#[inline(never)]
 #[cycle(expressions)]
 #[tactic(auto, unfolding(crate::specs::Expressions::compare_at, crate::specs::Expressions::compare_from))]
 fn compare_at(alloc: Global, tokens: &[Token], room: u32) -> Result<(Expr, &[Token]), Stop>
@@ -285,7 +289,8 @@ fn compare_at(alloc: Global, tokens: &[Token], room: u32) -> Result<(Expr, &[Tok
     Ok((comparison(alloc, first, op, second)?, left))
 }
 
-// An expression of this level, with room for so many brackets and signs.
+// An expression of this level, with room for so many brackets and signs. The functions of the levels are kept out of
+// line, so that each level takes its own place on the stack and no other's.
 #[cycle(expressions)]
 #[tactic(auto, unfolding(crate::specs::Expressions::expr_at, crate::specs::Expressions::expr_from))]
 pub fn expr_at(

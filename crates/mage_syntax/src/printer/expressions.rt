@@ -1,12 +1,13 @@
 // The text of an expression.
 ghost use Rattle.std.specs.Prelude.{◌≡◌, ◌++◌, OnOk};
+ghost use Rattle.mage_lex.specs.declared.token.TokenKind.{TokenKind};
 ghost use Rattle.mage_syntax.specs.declared.tree.Expr.{out-Expr};
 ghost use Rattle.mage_syntax.specs.Printed.{written};
-ghost use Rattle.mage_syntax.specs.Made.{head_made, expr_layer, expr_made, terms_made, args_made, more_args_made};
+ghost use Rattle.mage_syntax.specs.Made.{head_made, const_made, expr_layer, expr_made, terms_made, args_made, more_args_made};
 
-use crate::Expr;
 use crate::printer::constants::{MOST_CONST, add_const, add_const_terms, add_item};
 use crate::printer::tokens::{add, add_symbol};
+use crate::{ConstExpr, Expr};
 use mage_base::Memory;
 use mage_lex::{Token, symbols};
 
@@ -21,6 +22,16 @@ fn add_typed(text: &mut Vec<u8>, word: &Token, ty: &Token) -> Result<(), Memory>
     add(text, word)?;
     add(text, ty)?;
     add_symbol(text, symbols::OPEN_PAREN)
+}
+
+// Adds a `lit`.
+fn add_lit(text: &mut Vec<u8>, word: &Token, ty: &Token, value: &ConstExpr) -> Result<(), Memory>
+    ensures { OnOk result (text.new.items ≡ text.old.items
+        ++ (head_made written word.now ty.now 7 ++ const_made written 404 value.now ++ written (TokenKind.Symbol 8))) }
+{
+    add_typed(text, word, ty)?;
+    add_const(text, value, MOST_CONST)?;
+    add_symbol(text, symbols::CLOSE_PAREN)
 }
 
 // Adds an expression.
@@ -60,11 +71,7 @@ fn add_node(text: &mut Vec<u8>, value: &Expr, depth: u32) -> Result<(), Memory>
             add_expr(text, inner.get(), depth)?;
             add_symbol(text, symbols::CLOSE_PAREN)
         }
-        Expr::Lit { word, ty, value } => {
-            add_typed(text, word, ty)?;
-            add_const(text, value, MOST_CONST)?;
-            add_symbol(text, symbols::CLOSE_PAREN)
-        }
+        Expr::Lit { word, ty, value } => add_lit(text, word, ty, value),
         Expr::Resize { word, ty, of } => {
             add_typed(text, word, ty)?;
             add_expr(text, of.get(), depth)?;

@@ -1,12 +1,13 @@
 // The text of statements without blocks, and of the heads of those with blocks.
 ghost use Rattle.std.specs.Prelude.{◌≡◌, ◌++◌, OnOk};
+ghost use Rattle.mage_syntax.specs.declared.tree.Stmt.{out-Stmt};
 ghost use Rattle.mage_syntax.specs.Printed.{written};
-ghost use Rattle.mage_syntax.specs.Made.{head_made, value_made, constant_made, input_made, let_made, array_made, assign_made, move_made, output_made, for_made, if_made};
+ghost use Rattle.mage_syntax.specs.Made.{head_made, value_made, constant_made, input_made, let_made, array_made, assign_made, move_made, output_made, simple_made, for_made, if_made};
 
 use crate::printer::constants::{MOST_CONST, add_bracketed, add_const, add_index, add_item};
 use crate::printer::expressions::{MOST_EXPR, add_expr};
 use crate::printer::tokens::{add, add_symbol, add_word};
-use crate::{ConstExpr, Expr, Item};
+use crate::{ConstExpr, Expr, Item, Stmt};
 use mage_base::Memory;
 use mage_lex::{Token, symbols};
 
@@ -30,7 +31,7 @@ fn add_value(text: &mut Vec<u8>, value: &Expr) -> Result<(), Memory>
 }
 
 #[tactic(auto, unfolding(crate::specs::Made::constant_made))]
-pub fn add_constant(
+fn add_constant(
     text: &mut Vec<u8>,
     word: &Token,
     name: &Token,
@@ -44,7 +45,7 @@ pub fn add_constant(
 }
 
 #[tactic(auto, unfolding(crate::specs::Made::input_made))]
-pub fn add_input(
+fn add_input(
     text: &mut Vec<u8>,
     word: &Token,
     party: &Token,
@@ -63,7 +64,7 @@ pub fn add_input(
 }
 
 #[tactic(auto, unfolding(crate::specs::Made::let_made))]
-pub fn add_let(text: &mut Vec<u8>, word: &Token, name: &Token, value: &Expr) -> Result<(), Memory>
+fn add_let(text: &mut Vec<u8>, word: &Token, name: &Token, value: &Expr) -> Result<(), Memory>
     ensures { OnOk result (text.new.items ≡ text.old.items ++ let_made written word.now name.now value.now) }
 {
     add_head(text, word, name, symbols::ASSIGN)?;
@@ -71,7 +72,7 @@ pub fn add_let(text: &mut Vec<u8>, word: &Token, name: &Token, value: &Expr) -> 
 }
 
 #[tactic(auto, unfolding(crate::specs::Made::array_made))]
-pub fn add_array(
+fn add_array(
     text: &mut Vec<u8>,
     word: &Token,
     name: &Token,
@@ -91,7 +92,7 @@ pub fn add_array(
 }
 
 #[tactic(auto, unfolding(crate::specs::Made::assign_made))]
-pub fn add_assign(text: &mut Vec<u8>, place: &Item, eq: &Token, value: &Expr) -> Result<(), Memory>
+fn add_assign(text: &mut Vec<u8>, place: &Item, eq: &Token, value: &Expr) -> Result<(), Memory>
     ensures { OnOk result (text.new.items ≡ text.old.items ++ assign_made written place.now eq.now value.now) }
 {
     add_item(text, place)?;
@@ -100,7 +101,7 @@ pub fn add_assign(text: &mut Vec<u8>, place: &Item, eq: &Token, value: &Expr) ->
 }
 
 #[tactic(auto, unfolding(crate::specs::Made::move_made))]
-pub fn add_move(text: &mut Vec<u8>, word: &Token, name: &Token, place: &Item) -> Result<(), Memory>
+fn add_move(text: &mut Vec<u8>, word: &Token, name: &Token, place: &Item) -> Result<(), Memory>
     ensures { OnOk result (text.new.items ≡ text.old.items ++ move_made written word.now name.now place.now) }
 {
     add_head(text, word, name, symbols::ASSIGN)?;
@@ -109,11 +110,40 @@ pub fn add_move(text: &mut Vec<u8>, word: &Token, name: &Token, place: &Item) ->
 }
 
 #[tactic(auto, unfolding(crate::specs::Made::output_made))]
-pub fn add_output(text: &mut Vec<u8>, word: &Token, value: &Expr) -> Result<(), Memory>
+fn add_output(text: &mut Vec<u8>, word: &Token, value: &Expr) -> Result<(), Memory>
     ensures { OnOk result (text.new.items ≡ text.old.items ++ output_made written word.now value.now) }
 {
     add(text, word)?;
     add_value(text, value)
+}
+
+// Adds a statement without blocks; of one with blocks nothing.
+pub fn add_simple(text: &mut Vec<u8>, statement: &Stmt) -> Result<(), Memory>
+    ensures { OnOk result (text.new.items ≡ text.old.items ++ simple_made written (out-Stmt statement.now)) }
+{
+    match statement {
+        Stmt::Constant { word, name, value } => add_constant(text, word, name, value),
+        Stmt::Input {
+            word,
+            party,
+            name,
+            ty,
+            length,
+        } => add_input(text, word, party, name, ty, length),
+        Stmt::Let { word, name, value } => add_let(text, word, name, value),
+        Stmt::Array {
+            word,
+            name,
+            ty,
+            length,
+            eq,
+            value,
+        } => add_array(text, word, name, ty, length, eq, value),
+        Stmt::Assign { place, eq, value } => add_assign(text, place, eq, value),
+        Stmt::Move { word, name, place } => add_move(text, word, name, place),
+        Stmt::Output { word, value } => add_output(text, word, value),
+        Stmt::On { .. } | Stmt::For { .. } | Stmt::If { .. } => Ok(()),
+    }
 }
 
 // Adds a `for` up to its block.

@@ -7,9 +7,7 @@ ghost use Rattle.mage_syntax.specs.Made.{stmt_layer, stmt_made, block_made, else
 
 use crate::Stmt;
 use crate::printer::constants::{MOST_CONST, add_const};
-use crate::printer::simple::{
-    add_array, add_assign, add_constant, add_for, add_if, add_input, add_let, add_move, add_output,
-};
+use crate::printer::simple::{add_for, add_if, add_simple};
 use crate::printer::tokens::{add, add_symbol, add_word};
 use mage_base::Memory;
 use mage_lex::symbols;
@@ -34,25 +32,6 @@ fn add_node(text: &mut Vec<u8>, statement: &Stmt, depth: u32) -> Result<(), Memo
         ≡ text.old.items ++ stmt_layer written (stmt_made written depth) (out-Stmt statement.now)) }
 {
     match statement {
-        Stmt::Constant { word, name, value } => add_constant(text, word, name, value),
-        Stmt::Input {
-            word,
-            party,
-            name,
-            ty,
-            length,
-        } => add_input(text, word, party, name, ty, length),
-        Stmt::Let { word, name, value } => add_let(text, word, name, value),
-        Stmt::Array {
-            word,
-            name,
-            ty,
-            length,
-            eq,
-            value,
-        } => add_array(text, word, name, ty, length, eq, value),
-        Stmt::Assign { place, eq, value } => add_assign(text, place, eq, value),
-        Stmt::Move { word, name, place } => add_move(text, word, name, place),
         Stmt::On { word, worker, body } => {
             add(text, word)?;
             add_const(text, worker, MOST_CONST)?;
@@ -80,7 +59,7 @@ fn add_node(text: &mut Vec<u8>, statement: &Stmt, depth: u32) -> Result<(), Memo
             add_block(text, yes.as_slice(), depth)?;
             add_else(text, no, depth)
         }
-        Stmt::Output { word, value } => add_output(text, word, value),
+        _ => add_simple(text, statement),
     }
 }
 

@@ -1,29 +1,12 @@
 // The text of one token.
 ghost use Rattle.std.specs.Prelude.{◌≡◌, ◌++◌, ◌∷◌, [], OnOk};
 ghost use Rattle.std.specs.Fmt.{decimal};
-ghost use Rattle.mage_lex.specs.Symbols.{symbol_bytes};
 ghost use Rattle.mage_lex.specs.declared.token.TokenKind.{TokenKind};
 ghost use Rattle.mage_syntax.specs.Printed.{spelling, separator, written};
 
 use mage_base::Memory;
+use mage_lex::symbols::symbol_text;
 use mage_lex::{Token, TokenKind, symbols};
-
-// The symbols by row.
-const SYMBOLS: [&str; 24] = [
-    "..", "==", "<<", ">>", ";", ":", ",", "(", ")", "[", "]", "{", "}", "=", "<", "+", "-", "*",
-    "/", "%", "&", "^", "|", "!",
-];
-
-// Adds the symbol of this row.
-#[tactic(auto, using(crate::proofs::Spelled::no_symbol), unfolding(mage_lex::specs::Symbols::symbol_bytes))]
-fn add_symbol_text(text: &mut Vec<u8>, row: u8) -> Result<(), Memory>
-    ensures { OnOk result (text.new.items ≡ text.old.items ++ symbol_bytes row) }
-{
-    if row < 24 {
-        text.extend_from_slice(SYMBOLS[usize::from(row)].as_bytes())?;
-    }
-    Ok(())
-}
 
 // Adds the number in decimal digits.
 fn add_number(text: &mut Vec<u8>, value: u128) -> Result<(), Memory>
@@ -43,7 +26,10 @@ fn add_spelling(text: &mut Vec<u8>, kind: &TokenKind) -> Result<(), Memory>
             Ok(())
         }
         TokenKind::Number(value) => add_number(text, *value),
-        TokenKind::Symbol(row) => add_symbol_text(text, *row),
+        TokenKind::Symbol(row) => {
+            text.extend_from_slice(symbol_text(*row).as_bytes())?;
+            Ok(())
+        }
     }
 }
 
