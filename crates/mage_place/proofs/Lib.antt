@@ -11,3 +11,8 @@ pub mod Members
 pub mod Placed
 pub mod Stepped
 pub mod SoundLiterals
+pub mod WorkedExample
+pub mod Below
+pub mod PlacesComputed
+pub mod Ascending
+pub mod StepsComputed

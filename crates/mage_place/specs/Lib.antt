@@ -4,3 +4,4 @@ pub mod Places
 pub mod Steps
 pub mod Pages
 pub mod Pools
+pub mod Placing

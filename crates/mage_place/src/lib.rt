@@ -12,5 +12,5 @@ mod steps;
 mod touched;
 
 pub use classes::class_of;
-pub use laws::places_are_determined;
+pub use laws::{places_are_computed, places_are_determined, steps_are_computed};
 pub use placing::place;

@@ -4,7 +4,8 @@ ghost use Rattle.mage_instr.specs.declared.instr.TheConstants.{NEVER};
 ghost use Rattle.mage_instr.specs.Sound.{IsSound};
 ghost use Rattle.mage_instr.specs.Trace.{IsTrace};
 ghost use Rattle.mage_place.specs.Live.{class_of_result, values_touched_by};
-ghost use Rattle.mage_place.specs.Places.{IsPageSize, ArePlaces, nowhere, place_of};
+ghost use Rattle.mage_place.specs.Places.{IsPageSize, ArePlaces, nowhere, place_of, next_page};
+ghost use Rattle.mage_place.specs.Placing.{places_of, trace_of};
 ghost use Rattle.mage_place.specs.Steps.{AreSteps};
 ghost use Rattle.mage_place.specs.Pools.{IsPool, IsOn, Gives, FreesEnded};
 
@@ -24,7 +25,8 @@ use std::alloc::Global;
 ///
 /// A result goes to the open page of its class with the highest number, at its lowest free place. A page is open
 /// where a live value stands on it and a place is free. Where no page is open, a new one is made, with the next
-/// number from 0. So a page without a live value is never taken again.
+/// number from 0. So a page without a live value is never taken again, and there are at most as many pages as
+/// instructions.
 ///
 /// `instrs` is a list that can run, and `page` is a power of two from 64 to 65,536. The one error is want of memory,
 /// and no clause says when it comes, nor how long the call takes.
@@ -34,6 +36,9 @@ pub fn place(alloc: Global, instrs: &[Instr], page: u32) -> Result<(Vec<Place>, 
     ensures places { IfOk result (λ placed. ArePlaces instrs.now page placed.0.items) }
     ensures steps { IfOk result (λ placed. AreSteps instrs.now placed.0.items placed.1.items) }
     ensures trace { IfOk result (λ placed. IsTrace placed.1.items) }
+    ensures placed { IfOk result (λ placed. placed.0.items ≡ places_of instrs.now page) }
+    ensures traced { IfOk result (λ placed. placed.1.items ≡ trace_of instrs.now (places_of instrs.now page)) }
+    ensures few { IfOk result (λ placed. next_page placed.0.items ≤ length instrs.now) }
 {
     let places = places_of(alloc, instrs, page)?;
     let trace = trace_of(alloc, instrs, &places)?;
@@ -44,7 +49,8 @@ pub fn place(alloc: Global, instrs: &[Instr], page: u32) -> Result<(Vec<Place>, 
 fn places_of(alloc: Global, instrs: &[Instr], page: u32) -> Result<Vec<Place>, Memory>
     requires sound { IsSound instrs.now }
     requires page { IsPageSize page }
-    ensures { IfOk result (λ places. ArePlaces instrs.now page places.items) }
+    ensures places { IfOk result (λ places. ArePlaces instrs.now page places.items) }
+    ensures few { IfOk result (λ places. next_page places.items ≤ length instrs.now) }
 {
     let last = last_uses(alloc, instrs)?;
     let mut pool = no_pages(alloc, page)?;

@@ -4,6 +4,7 @@ ghost use Rattle.mage_instr.specs.Sound.{IsSound};
 ghost use Rattle.mage_instr.specs.Trace.{IsStep, pages_of};
 ghost use Rattle.mage_place.specs.Live.{values_touched_by};
 ghost use Rattle.mage_place.specs.Steps.{AreSteps, IsStepOf, IsPadded};
+ghost use Rattle.mage_place.specs.Placing.{step_for, trace_of};
 
 use crate::touched::touched_values;
 use mage_base::Memory;
@@ -14,7 +15,8 @@ use std::alloc::Global;
 pub fn trace_of(alloc: Global, instrs: &[Instr], places: &[Place]) -> Result<Vec<Step>, Memory>
     requires sound { IsSound instrs.now }
     requires count { length places.now ≡ length instrs.now }
-    ensures { IfOk result (λ trace. AreSteps instrs.now places.now trace.items) }
+    ensures steps { IfOk result (λ trace. AreSteps instrs.now places.now trace.items) }
+    ensures traced { IfOk result (λ trace. trace.items ≡ trace_of instrs.now places.now) }
 {
     let mut trace = Vec::with_capacity(alloc, instrs.len())?;
     for (t, instr) in instrs.iter().enumerate() {
@@ -26,7 +28,8 @@ pub fn trace_of(alloc: Global, instrs: &[Instr], places: &[Place]) -> Result<Vec
 // The pages on which the values stand that instruction t touches.
 fn step_of(places: &[Place], instr: Instr, t: u32) -> Step
     requires { (v : ℕ) → Contains (values_touched_by instr t) v → v < length places.now }
-    ensures { IsStepOf places.now t instr result }
+    ensures step { IsStepOf places.now t instr result }
+    ensures computed { result ≡ step_for places.now t instr }
 {
     let touched = touched_values(instr, t);
     let mut step = Step {
@@ -47,6 +50,7 @@ fn with_page(step: Step, page: u32) -> Step
     ensures ok { IsStep result }
     ensures padded { IsPadded result }
     ensures count { result.count ≤ step.count + 1 }
+    ensures four { length result.pages ≡ 4 }
     ensures pages { (q : ℕ) → Contains (pages_of result) q ↔ (Contains (pages_of step) q ⊎ (q ≡ page)) }
 {
     let at = below(step, page);

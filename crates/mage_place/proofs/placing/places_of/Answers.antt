@@ -54,5 +54,5 @@ loop-t-preserved c =
       kept = rw c.in_ok-push.ensures.items (Kept-more instrs c.args.page c.in_ok-last.last.items c.requires.sound c.in_ok-last.ensures.last t i is c.loop-t.places.items place old.pages.items mid.pages.items kept all pos given c.free_ended.new.pool.pages.items frees);
     }
 
-pub returns : goal.returns
-returns c = ArePlaces-from_Kept c.args.instrs.now c.args.page c.in_ok-last.last.items c.loop-t.t c.loop-t.places.items c.loop-t.pool.pages.items (omega arith) c.loop-t.invariant.kept
+pub returns-clause-places : goal.returns-clause-places
+returns-clause-places c = ArePlaces-from_Kept c.args.instrs.now c.args.page c.in_ok-last.last.items c.loop-t.t c.loop-t.places.items c.loop-t.pool.pages.items (omega arith) c.loop-t.invariant.kept
