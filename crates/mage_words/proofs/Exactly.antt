@@ -1,11 +1,9 @@
 -- What clap's clauses say of words that are pairs, and what the words ask for.
-use Rattle.std.proofs.Common.{◌≡◌, ◌∙◌, ◌<◌, ◌&&◌, ℕ, Bool, cond, true, false, refl, sym, ap, ap₂, arith, inl, inr, List, [], ◌∷◌, drop, length, Option, Some, None, is_some, Err, ok_or, option_map, String}
+use Rattle.std.proofs.Common.{◌≡◌, ◌∙◌, ◌<◌, ℕ, cond, true, false, refl, sym, ap, ap₂, subst, arith, inl, inr, List, [], ◌∷◌, map, drop, length, Option, Some, None, is_some, Err, ok_or, option_map, String}
 use Rattle.std.specs.List.{All, slice_index_or}
 use Rattle.std.specs.String.{string_bytes}
 use Rattle.std.specs.declared.alloc.Global.{Global}
-use Rattle.std.proofs.lemmas.List.{length-map}
-use Rattle.std.specs.Prelude.{codes}
-use Rattle.std.specs.Str.{bytes_eq}
+use Rattle.std.proofs.lemmas.List.{get_or-map, length-map}
 use Rattle.clap.specs.Faults.{fault_of}
 use Rattle.clap.specs.Kinds.{HasKind, Kinds}
 use Rattle.clap.specs.Matches.{first_value}
@@ -20,7 +18,10 @@ use Rattle.mage_words.specs.declared.fault.WordsFault.TheVariants as fault
 use Rattle.mage_words.specs.declared.option.OptionName.{OptionName}
 use Rattle.mage_words.specs.declared.option.OptionName.TheVariants as option
 use Rattle.mage_words.specs.Options.{OptionRule, rule_of}
-use Rattle.mage_words.specs.Words.{◌>>=◌, Pair, Solo, are_words_of, bytes_of_words, limits_of, pairs_of, solo_of, solo_of_pairs, solo_of_values, solo_rules, takes, value_of}
+use Rattle.mage_words.specs.declared.command.CommandName.{CommandName}
+use Rattle.mage_words.specs.declared.command.CommandName.TheVariants as command
+use Rattle.mage_words.specs.Commands.{command_named, command_rule, rules_of}
+use Rattle.mage_words.specs.Words.{◌>>=◌, Pair, Request, asked_of, asked_of_pairs, bytes_of_words, command_in, limits_of, pairs_of, request_of, solo_of_values, stats_of_values, takes, value_of}
 use Rattle.mage_words.specs.Clap.{are_apart, clap_app}
 use Rattle.mage_words.specs.Answers.{Reads, value_in}
 use Rattle.mage_words.proofs.Faultless.{none}
@@ -54,52 +55,66 @@ some_kind (k ∷ ks) e has other = refl
 
 -- ---- what the words ask for
 
-pub nothing_asked : (words : List Text) → are_words_of (codes "solo") words ≡ false → solo_of words ≡ None
-unfolding solo_of
+-- words without a command or without pairs ask for nothing
+pub nothing_asked : (words : List Text) → command_in words ≡ None → request_of words ≡ None
+unfolding request_of
 nothing_asked [] h = refl
-nothing_asked (word ∷ words) h = go (bytes_eq word (codes "solo")) (pairs_of words) h
+nothing_asked (word ∷ words) h = go (command_named word) (pairs_of words) h
   where
-    go : (b : Bool) (o : Option (List Pair)) → (b && is_some o) ≡ false → cond b (o >>= solo_of_pairs) None ≡ None
-    go false o h = refl
-    go true None h = refl
-    go true (Some pairs) h = cc
+    go : (named : Option CommandName) (pairs : Option (List Pair)) → cond (is_some pairs) named None ≡ None
+        → (named >>= (λ name. pairs >>= asked_of_pairs name)) ≡ None
+    go None pairs h = refl
+    go (Some name) None h = refl
+    go (Some name) (Some pairs) h = cc
 
-pub pairs_asked : (words : List Text) → are_words_of (codes "solo") words ≡ true
-    → (pairs : List Pair) × (0 < length words) × (pairs_of (drop 1 words) ≡ Some pairs) × (solo_of words ≡ solo_of_pairs pairs)
-unfolding solo_of
-pairs_asked [] h = cc
-pairs_asked (word ∷ words) h = go (bytes_eq word (codes "solo")) (pairs_of words) h
+-- others ask for what their pairs ask their command for
+pub pairs_asked : (words : List Text) (name : CommandName) → command_in words ≡ Some name
+    → (pairs : List Pair) × (0 < length words) × (pairs_of (drop 1 words) ≡ Some pairs) × (request_of words ≡ asked_of_pairs name pairs)
+unfolding request_of
+pairs_asked [] name h = cc
+pairs_asked (word ∷ words) name h = go (command_named word) (pairs_of words) h
   where
-    go : (b : Bool) (o : Option (List Pair)) → (b && is_some o) ≡ true
-        → (pairs : List Pair) × (0 < length (word ∷ words)) × (o ≡ Some pairs) × (cond b (o >>= solo_of_pairs) None ≡ solo_of_pairs pairs)
-    go false o h = cc
-    go true None h = cc
-    go true (Some pairs) h = (pairs, omega arith, refl, refl)
+    go : (named : Option CommandName) (o : Option (List Pair)) → cond (is_some o) named None ≡ Some name
+        → (pairs : List Pair) × (0 < length (word ∷ words)) × (o ≡ Some pairs) × ((named >>= (λ name. o >>= asked_of_pairs name)) ≡ asked_of_pairs name pairs)
+    go named None h = cc
+    go named (Some pairs) h = (pairs, omega arith, refl, ap (λ (known : Option CommandName). known >>= (λ name. asked_of_pairs name pairs)) h)
 
--- the same values ask for the same
-pub same_asked : (f g : OptionName → Option Text) → f option.Source ≡ g option.Source → f option.Garbler ≡ g option.Garbler → f option.Evaluator ≡ g option.Evaluator
-    → f option.Driver ≡ g option.Driver → f option.Page ≡ g option.Page → f option.Frames ≡ g option.Frames → f option.Buffer ≡ g option.Buffer → f option.Ahead ≡ g option.Ahead
-    → solo_of_values f ≡ solo_of_values g
-unfolding solo_of_values limits_of
-same_asked f g a b c d e h i j = rw (a, b, c, d, e, h, i, j) refl
+-- what a command is asked for rests on the values of its options alone
+same_asked : (name : CommandName) (f g : OptionName → Option Text)
+    → All (λ option. f option ≡ g option) (command_rule name).options → asked_of name f ≡ asked_of name g
+unfolding solo_of_values stats_of_values limits_of
+same_asked command.Solo f g same =
+    let at = λ (k : ℕ) (lt : k < 8). same k option.Source lt in
+    rw (at 0 (omega arith), at 1 (omega arith), at 2 (omega arith), at 3 (omega arith), at 4 (omega arith), at 5 (omega arith), at 6 (omega arith), at 7 (omega arith)) refl
+same_asked command.Stats f g same =
+    let at = λ (k : ℕ) (lt : k < 5). same k option.Source lt in
+    rw (at 0 (omega arith), at 1 (omega arith), at 2 (omega arith), at 3 (omega arith), at 4 (omega arith)) refl
 
-pub asked_is : {X : Type 0} (view : X → Solo) (o : Option X) (asked : Option Solo) → option_map view o ≡ asked → Reads view asked (ok_or o fault.Words)
+-- what holds of each row of some options
+each_option : (P : OptionRule → Type 0) (options : List OptionName) → All P (map rule_of options) → All (λ option. P (rule_of option)) options
+each_option P options all k any lt = subst P (get_or-map rule_of options k any (rule_of any) lt) (all k (rule_of any) (omega (arith, length-map options rule_of, lt)))
+
+-- what the values ask for is the answer
+pub asked_is : {X : Type 0} (view : X → Request) (o : Option X) (asked : Option Request) → option_map view o ≡ asked → Reads view asked (ok_or o fault.Words)
 asked_is view None asked is = sym is
 asked_is view (Some x) asked is = sym is
 
-pub refused_is : {X : Type 0} (view : X → Solo) (f : WordsFault) (asked : Option Solo) → (f ≡ fault.Words → asked ≡ None) → Reads view asked (Err f)
+-- and a refusal is one where they ask for nothing
+pub refused_is : {X : Type 0} (view : X → Request) (f : WordsFault) (asked : Option Request) → (f ≡ fault.Words → asked ≡ None) → Reads view asked (Err f)
 refused_is view fault.Words asked h = h refl
 refused_is view fault.Memory asked h = tt
 
--- the matches of what `solo` takes ask for what the pairs do
-pub all_asked : (found : Found) (pairs : List Pair) → takes solo_rules pairs ≡ true → All (λ rule. first_value found rule.name ≡ value_of pairs rule) solo_rules
-    → solo_of_values (value_in found) ≡ solo_of_pairs pairs
-all_asked found pairs taken values =
-    let own : OptionName → Option Text = λ name. value_of pairs (rule_of name) in
-    let any = rule_of option.Source in
-    same_asked (value_in found) own (values 0 any (omega arith)) (values 1 any (omega arith)) (values 2 any (omega arith)) (values 3 any (omega arith))
-    (values 4 any (omega arith)) (values 5 any (omega arith)) (values 6 any (omega arith)) (values 7 any (omega arith))
-    ∙ sym (ap (λ b. cond b (solo_of_values own) None) taken)
+-- `rules` are the rows of the command's options
+module _ (name : CommandName) (rules : List OptionRule) (own : rules ≡ rules_of name) (pairs : List Pair) where
+  -- the matches of what a command takes ask for what the pairs do
+  pub all_asked : (found : Found) → takes rules pairs ≡ true → All (λ rule. first_value found rule.name ≡ value_of pairs rule) rules
+      → asked_of name (value_in found) ≡ asked_of_pairs name pairs
+  all_asked found taken values =
+      let P : OptionRule → Type 0 = λ rule. first_value found rule.name ≡ value_of pairs rule in
+      let given : OptionName → Option Text = λ option. value_of pairs (rule_of option) in
+      same_asked name (value_in found) given (each_option P (command_rule name).options (subst (λ (rs : List OptionRule). All P rs) own values))
+      ∙ sym (ap (λ b. cond b (asked_of name given) None) (ap (λ rs. takes rs pairs) (sym own) ∙ taken))
 
-pub none_asked : (pairs : List Pair) → takes solo_rules pairs ≡ false → solo_of_pairs pairs ≡ None
-none_asked pairs refused = ap (λ b. cond b (solo_of_values (λ name. value_of pairs (rule_of name))) None) refused
+  -- and others ask for nothing
+  pub none_asked : takes rules pairs ≡ false → asked_of_pairs name pairs ≡ None
+  none_asked refused = ap (λ b. cond b (asked_of name (λ option. value_of pairs (rule_of option))) None) (ap (λ rs. takes rs pairs) (sym own) ∙ refused)

@@ -6,3 +6,4 @@ pub mod Made
 pub mod PairLemmas
 pub mod Exactly
 pub mod Numbers
+pub mod Ranges

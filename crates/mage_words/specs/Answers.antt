@@ -5,12 +5,15 @@ use Rattle.clap.specs.declared.parser.matches.Found.{Found}
 use Rattle.mage_words.specs.declared.fault.WordsFault.{WordsFault}
 use Rattle.mage_words.specs.declared.fault.WordsFault.TheVariants as fault
 use Rattle.mage_words.specs.declared.option.OptionName.{OptionName}
-use Rattle.mage_words.specs.declared.request.Solo as code
+use Rattle.mage_words.specs.declared.request.Request as code_request
+use Rattle.mage_words.specs.declared.request.Request.TheVariants as code
+use Rattle.mage_words.specs.declared.request.Solo as code_solo
+use Rattle.mage_words.specs.declared.request.Stats as code_stats
 use Rattle.mage_words.specs.Options.{rule_of}
-use Rattle.mage_words.specs.Words.{Solo}
+use Rattle.mage_words.specs.Words.{Request, Solo, SoloRequest, Stats, StatsRequest}
 
--- what the code's words hold
-abbrev pub solo_view : code.Solo → Solo
+-- what the code's requests hold
+abbrev pub solo_view : code_solo.Solo → SoloRequest
 solo_view solo = record {
   source = solo.source.now;
   garbler = option_map (λ name. name.now) solo.garbler;
@@ -19,12 +22,19 @@ solo_view solo = record {
   limits = solo.limits;
 }
 
+abbrev pub stats_view : code_stats.Stats → StatsRequest
+stats_view stats = record { source = stats.source.now; limits = stats.limits }
+
+abbrev pub request_view : code_request.Request → Request
+request_view (code.Solo solo) = Solo (solo_view solo)
+request_view (code.Stats stats) = Stats (stats_view stats)
+
 -- the value that matches have for an option
 abbrev pub value_in : Found → OptionName → Option (List ℕ)
 value_in found name = first_value found (rule_of name).name
 
 -- what words ask for is read, or refused exactly where they ask for nothing; want of memory may come in its place
-abbrev pub Reads : {X : Type 0} → (X → Solo) → Option Solo → Result X WordsFault → Type 0
-Reads view solo (Ok x) = solo ≡ Some (view x)
-Reads view solo (Err fault.Words) = solo ≡ None
-Reads view solo (Err fault.Memory) = Unit {0}
+abbrev pub Reads : {X Y : Type 0} → (X → Y) → Option Y → Result X WordsFault → Type 0
+Reads view asked (Ok x) = asked ≡ Some (view x)
+Reads view asked (Err fault.Words) = asked ≡ None
+Reads view asked (Err fault.Memory) = Unit {0}

@@ -1,4 +1,5 @@
 pub mod Options
+pub mod Commands
 pub mod Words
 pub mod Clap
 pub mod Answers

@@ -15,7 +15,10 @@ use Rattle.mage_words.specs.declared.option.Kind.{Kind}
 use Rattle.mage_words.specs.declared.option.Kind.TheVariants as kind
 use Rattle.mage_words.specs.declared.request.Driver.{Driver}
 use Rattle.mage_words.specs.declared.request.Driver.TheVariants as driver
+use Rattle.mage_words.specs.declared.command.CommandName.{CommandName}
+use Rattle.mage_words.specs.declared.command.CommandName.TheVariants as command
 use Rattle.mage_words.specs.Options.{OptionRule, Absence, Required, Default, rule_of}
+use Rattle.mage_words.specs.Commands.{command_named, rules_of}
 
 infixl 10 ◌>>=◌
 abbrev pub ◌>>=◌ : {A B : Type 0} → Option A → (A → Option B) → Option B
@@ -107,20 +110,6 @@ number_for (kind.Number least most) text = number_in least most text
 number_for (kind.PowerOfTwo least most) text = number_in least most text >>= if_power_of_two
 number_for other text = None
 
--- ---- `solo`
-
--- what `solo` is asked for
-pub record Solo : Type 0 where
-  pub source : List ℕ
-  pub garbler : Option (List ℕ)
-  pub evaluator : Option (List ℕ)
-  pub driver : Driver
-  pub limits : Limits
-
-abbrev pub solo_options : List OptionName
-solo_options = option.Source ∷ option.Garbler ∷ option.Evaluator ∷ option.Driver ∷ option.Page ∷ option.Frames
-    ∷ option.Buffer ∷ option.Ahead ∷ []
-
 -- frames and buffer hold at most 4,194,304 wires together
 abbrev pub if_within : Limits → Option Limits
 if_within limits = if nat_le ((limits.frames + limits.buffer) * limits.page) 4194304 then Some limits else None
@@ -129,11 +118,43 @@ if_within limits = if nat_le ((limits.frames + limits.buffer) * limits.page) 419
 abbrev pub driver_of : List ℕ → Option Driver
 driver_of name = if bytes_eq name (codes "plain") then Some driver.Plain else None
 
+-- ---- what commands are asked for
+
+-- what `solo` is asked for
+pub record SoloRequest : Type 0 where
+  pub source : List ℕ
+  pub garbler : Option (List ℕ)
+  pub evaluator : Option (List ℕ)
+  pub driver : Driver
+  pub limits : Limits
+
+-- what `stats` is asked for
+pub record StatsRequest : Type 0 where
+  pub source : List ℕ
+  pub limits : Limits
+
+-- what a command is asked for
+pub data Request : Type 0 where
+  Solo : SoloRequest → Request
+  Stats : StatsRequest → Request
+
+-- the name of the source's file
+abbrev pub source_in : Request → List ℕ
+source_in (Solo solo) = solo.source
+source_in (Stats stats) = stats.source
+
+-- what a plan may use
+abbrev pub limits_in : Request → Limits
+limits_in (Solo solo) = solo.limits
+limits_in (Stats stats) = stats.limits
+
 -- Below, `value` has the value of each option.
 module _ (value : OptionName → Option (List ℕ)) where
+  -- the number of an option
   abbrev pub number : OptionName → Option ℕ
   number name = value name >>= number_for (rule_of name).kind
 
+  -- the limits, where each is in its range and they are within the wires
   unfoldable pub limits_of : Option Limits
   limits_of = do
     page ← number option.Page
@@ -142,7 +163,8 @@ module _ (value : OptionName → Option (List ℕ)) where
     ahead ← number option.Ahead
     if_within (record { page = page; frames = frames; buffer = buffer; ahead = ahead })
 
-  unfoldable pub solo_of_values : Option Solo
+  -- what the values ask `solo` for
+  unfoldable pub solo_of_values : Option SoloRequest
   solo_of_values = do
     source ← value option.Source
     driver ← value option.Driver >>= driver_of
@@ -155,19 +177,32 @@ module _ (value : OptionName → Option (List ℕ)) where
       limits = limits;
     })
 
-abbrev pub solo_rules : List OptionRule
-solo_rules = map rule_of solo_options
+  -- what the values ask `stats` for
+  unfoldable pub stats_of_values : Option StatsRequest
+  stats_of_values = do
+    source ← value option.Source
+    limits ← limits_of
+    Some (record { source = source; limits = limits })
 
--- what pairs ask `solo` for
-abbrev pub solo_of_pairs : List Pair → Option Solo
-solo_of_pairs pairs = if takes solo_rules pairs then solo_of_values (λ name. value_of pairs (rule_of name)) else None
+-- what the values of its options ask a command for
+abbrev pub asked_of : CommandName → (OptionName → Option (List ℕ)) → Option Request
+asked_of command.Solo value = option_map Solo (solo_of_values value)
+asked_of command.Stats value = option_map Stats (stats_of_values value)
 
--- what the words ask for, where they are those of `solo`
-unfoldable pub solo_of : List (List ℕ) → Option Solo
-solo_of [] = None
-solo_of (command ∷ words) = if bytes_eq command (codes "solo") then pairs_of words >>= solo_of_pairs else None
+-- what pairs ask a command for
+abbrev pub asked_of_pairs : CommandName → List Pair → Option Request
+asked_of_pairs name pairs =
+    if takes (rules_of name) pairs then asked_of name (λ option. value_of pairs (rule_of option)) else None
 
--- the words are the command's and then pairs
-abbrev pub are_words_of : List ℕ → List (List ℕ) → Bool
-are_words_of command [] = false
-are_words_of command (word ∷ words) = bytes_eq word command && is_some (pairs_of words)
+-- what the words ask for: the first names the command, and the rest are pairs
+unfoldable pub request_of : List (List ℕ) → Option Request
+request_of [] = None
+request_of (word ∷ words) = do
+  name ← command_named word
+  pairs ← pairs_of words
+  asked_of_pairs name pairs
+
+-- the command that the first word names, where pairs stand behind it
+abbrev pub command_in : List (List ℕ) → Option CommandName
+command_in [] = None
+command_in (word ∷ words) = if is_some (pairs_of words) then command_named word else None

@@ -1,17 +1,20 @@
 //! The words of the commands: which lists of words a command takes, and what they ask for.
 #![tactic(auto)]
 
+mod asked;
 mod command;
 mod fault;
+mod matches;
 mod number;
 mod option;
 mod pairs;
 mod request;
-mod solo;
 mod table;
 #[cfg(test)]
 mod tests;
+mod values;
+mod words;
 
 pub use fault::WordsFault;
-pub use request::{Driver, Solo};
-pub use solo::solo_words;
+pub use request::{Driver, Request, Solo, Stats};
+pub use words::read_words;

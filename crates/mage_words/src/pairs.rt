@@ -1,7 +1,7 @@
 // The form of pairs of words.
 ghost use Rattle.std.specs.Prelude.{◌≡◌, ◌==◌, ◌<◌, length, is_some, IfSome, IfNone};
 ghost use Rattle.std.specs.List.{list_any};
-ghost use Rattle.mage_words.specs.Words.{is_option_word, is_value_word, pairs_of, are_words_of, bytes_of_words};
+ghost use Rattle.mage_words.specs.Words.{is_option_word, is_value_word, pairs_of, bytes_of_words};
 
 fn has_equals_sign(word: &[u8]) -> bool
     ensures { result ≡ list_any (λ byte. byte == 61) word.now }
@@ -43,8 +43,8 @@ fn behind_pair(words: &[String]) -> Option<&[String]>
     }
 }
 
-// Whether the words are pairs of an option's word and a value.
-fn are_pairs(words: &[String]) -> bool
+/// Whether the words are pairs of an option's word and a value.
+pub fn are_pairs(words: &[String]) -> bool
     ensures { result ≡ is_some (pairs_of (bytes_of_words words.now)) }
 {
     let mut rest = words;
@@ -52,14 +52,4 @@ fn are_pairs(words: &[String]) -> bool
         rest = others;
     }
     rest.is_empty()
-}
-
-/// Whether the words are the command's word, and then pairs of an option's word and a value.
-pub fn are_words_of(command: &str, words: &[String]) -> bool
-    ensures { result ≡ are_words_of command.now (bytes_of_words words.now) }
-{
-    match words.split_first() {
-        Some((word, pairs)) => word.as_str() == command && are_pairs(pairs),
-        None => false,
-    }
 }

@@ -7,6 +7,15 @@ pub enum Driver {
     Plain,
 }
 
+/// What a command is asked for.
+#[derive(Clone, Copy)]
+pub enum Request<'a> {
+    /// To evaluate a source.
+    Solo(Solo<'a>),
+    /// To say what a plan for a source costs.
+    Stats(Stats<'a>),
+}
+
 /// What `solo` is asked for.
 #[derive(Clone, Copy)]
 pub struct Solo<'a> {
@@ -17,5 +26,13 @@ pub struct Solo<'a> {
     /// The file of the evaluator's input text. Without one the text is empty.
     pub evaluator: Option<&'a str>,
     pub driver: Driver,
+    pub limits: Limits,
+}
+
+/// What `stats` is asked for.
+#[derive(Clone, Copy)]
+pub struct Stats<'a> {
+    /// The file of the source.
+    pub source: &'a str,
     pub limits: Limits,
 }

@@ -1,4 +1,4 @@
-use super::{Driver, Solo, WordsFault, solo_words};
+use super::{Driver, Request, Solo, Stats, WordsFault, read_words};
 use mage_instr::Limits;
 use std::alloc::{AllocError, Global};
 use std::process::Abort;
@@ -13,11 +13,27 @@ fn words_of(alloc: Global, line: &str) -> Result<Vec<String>, AllocError> {
     Ok(words)
 }
 
+// What the words ask `solo` for, where they do.
+fn solo_in(alloc: Global, words: &[String]) -> Option<Solo<'_>> {
+    match read_words(alloc, words) {
+        Ok(Request::Solo(solo)) => Some(solo),
+        _ => None,
+    }
+}
+
+// What the words ask `stats` for, where they do.
+fn stats_in(alloc: Global, words: &[String]) -> Option<Stats<'_>> {
+    match read_words(alloc, words) {
+        Ok(Request::Stats(stats)) => Some(stats),
+        _ => None,
+    }
+}
+
 fn refused(rt: &impl Abort, alloc: Global, lines: &[&str]) -> Result<(), Fail> {
     for line in lines {
         let words = words_of(alloc, line)?;
         assert!(rt;
-            matches!(solo_words(alloc, &words), Err(WordsFault::Words)),
+            matches!(read_words(alloc, &words), Err(WordsFault::Words)),
             "{line}"
         );
     }
@@ -33,11 +49,11 @@ fn limits(page: u32, frames: u32, buffer: u16, ahead: u32) -> Limits {
     }
 }
 
-// The lines ask for these limits of the source `s`, without input texts.
+// The lines ask `solo` for these limits of the source `s`, without input texts.
 fn limited(rt: &impl Abort, alloc: Global, cases: &[(&str, Limits)]) -> Result<(), Fail> {
     for (line, limits) in cases {
         let words = words_of(alloc, line)?;
-        let solo = solo_words(alloc, &words).ok().ok_or("refused")?;
+        let solo = solo_in(alloc, &words).ok_or("refused")?;
         assert_eq!(rt; solo.source, "s", "{line}");
         assert!(rt;
             solo.garbler.is_none() && solo.evaluator.is_none(),
@@ -49,9 +65,20 @@ fn limited(rt: &impl Abort, alloc: Global, cases: &[(&str, Limits)]) -> Result<(
     Ok(())
 }
 
+// The lines ask `stats` for these limits of the source `s`.
+fn stats_limited(rt: &impl Abort, alloc: Global, cases: &[(&str, Limits)]) -> Result<(), Fail> {
+    for (line, limits) in cases {
+        let words = words_of(alloc, line)?;
+        let stats = stats_in(alloc, &words).ok_or("refused")?;
+        assert_eq!(rt; stats.source, "s", "{line}");
+        assert_eq!(rt; stats.limits, *limits, "{line}");
+    }
+    Ok(())
+}
+
 #[test]
 fn no_words(rt: HostRuntime) {
-    assert!(rt; matches!(solo_words(rt.alloc(), &[]), Err(WordsFault::Words)));
+    assert!(rt; matches!(read_words(rt.alloc(), &[]), Err(WordsFault::Words)));
 }
 
 #[test]
@@ -62,6 +89,9 @@ fn words_that_are_no_pairs(rt: HostRuntime) -> Result<(), Fail> {
         &[
             "",
             "plans --source s",
+            "plan --source s",
+            "solos --source s",
+            "sol --source s",
             "Solo --source s",
             "--source s",
             "solo --source",
@@ -195,7 +225,83 @@ fn limits_and_defaults(rt: HostRuntime) -> Result<(), Fail> {
     )
 }
 
-// All options, as words.
+#[test]
+fn words_that_ask_stats_for_nothing(rt: HostRuntime) -> Result<(), Fail> {
+    refused(
+        &rt,
+        rt.alloc(),
+        &[
+            "stats",
+            "stats s",
+            "stats --help",
+            "stats --help x",
+            "stats --page 64",
+            "stats --source",
+            "stats --source s --page",
+            "stats --source s t",
+            "stats --source=s",
+            "stats --source -s",
+            "stats -source s",
+            "stat --source s",
+            "Stats --source s",
+            "stats solo --source s",
+            "solo stats --source s",
+            "stats --source s --source s",
+            "stats --source s --frames 4 --frames 4",
+            "stats --source s --garbler g",
+            "stats --source s --evaluator e",
+            "stats --source s --driver plain",
+            "stats --source s --out o",
+            "stats --source s --frames 0",
+            "stats --source s --frames 65537",
+            "stats --source s --page 32",
+            "stats --source s --page 100",
+            "stats --source s --page 131072",
+            "stats --source s --buffer 4097",
+            "stats --source s --ahead 1000001",
+            "stats --source s --ahead ten",
+            "stats --source s --page 65536 --frames 57",
+            "stats --source s --page 65536 --frames 64 --buffer 1",
+        ],
+    )
+}
+
+#[test]
+fn limits_of_stats(rt: HostRuntime) -> Result<(), Fail> {
+    stats_limited(
+        &rt,
+        rt.alloc(),
+        &[
+            ("stats --source s", limits(256, 64, 8, 64)),
+            (
+                "stats --ahead 5 --buffer 2 --frames 3 --page 128 --source s",
+                limits(128, 3, 2, 5),
+            ),
+            (
+                "stats --frames 3 --page 128 --source s --ahead 5 --buffer 2",
+                limits(128, 3, 2, 5),
+            ),
+            (
+                "stats --page 0064 --source s --frames 0002",
+                limits(64, 2, 8, 64),
+            ),
+            (
+                "stats --source s --ahead 00000000000000000000",
+                limits(256, 64, 8, 0),
+            ),
+            (
+                "stats --source s --page 65536 --frames 56",
+                limits(65_536, 56, 8, 64),
+            ),
+            (
+                "stats --source s --page 65536 --frames 64 --buffer 0",
+                limits(65_536, 64, 0, 64),
+            ),
+        ],
+    )
+}
+
+// All options of `solo`, as words.
 const ALL: [&str; 16] = [
     "--source",
     "s=1",
@@ -232,11 +338,11 @@ fn turned(alloc: Global, first: usize, backwards: bool) -> Result<Vec<String>, A
 }
 
 #[test]
-fn options_in_any_order(rt: HostRuntime) -> Result<(), Fail> {
+fn options_of_solo_in_any_order(rt: HostRuntime) -> Result<(), Fail> {
     for first in 0..8usize {
         for backwards in [false, true] {
             let words = turned(rt.alloc(), first, backwards)?;
-            let solo = solo_words(rt.alloc(), &words).ok().ok_or("refused")?;
+            let solo = solo_in(rt.alloc(), &words).ok_or("refused")?;
             assert_eq!(rt; solo.source, "s=1");
             assert!(rt; solo.garbler == Some("g") && solo.evaluator == Some("e-"));
             assert!(rt; solo.limits == limits(128, 3, 2, 5));

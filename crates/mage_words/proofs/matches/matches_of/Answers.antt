@@ -9,7 +9,7 @@ use Rattle.mage_words.specs.Words.{bytes_of_words}
 use Rattle.mage_words.proofs.Faultless.{none}
 use Rattle.mage_words.proofs.Parsed.{simple_app, simple_and_free}
 use Rattle.mage_words.proofs.Exactly.{has_words, none_where_taken, value_where_taken, some_kind}
-use Rattle.mage_words.proofs.command.matches_of.Goals as goal
+use Rattle.mage_words.proofs.matches.matches_of.Goals as goal
 
 pub returns-in-Ok-try_get_matches_from-clause-taken : goal.returns-in-Ok-try_get_matches_from-clause-taken
 returns-in-Ok-try_get_matches_from-clause-taken c = λ pairs is.

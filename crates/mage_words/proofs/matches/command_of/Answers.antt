@@ -3,7 +3,7 @@ use Rattle.clap.specs.Simple.{with_rule}
 use Rattle.mage_words.specs.declared.option.OptionName.TheVariants as option
 use Rattle.mage_words.specs.Clap.{clap_rule}
 use Rattle.mage_words.proofs.Made.{one_more}
-use Rattle.mage_words.proofs.command.command_of.Goals as goal
+use Rattle.mage_words.proofs.matches.command_of.Goals as goal
 
 pub loop-option-preserved : goal.loop-option-preserved
 loop-option-preserved c =

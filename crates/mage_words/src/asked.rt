@@ -1,0 +1,47 @@
+// What the values of a command's options ask it for.
+ghost use Rattle.std.specs.Prelude.{◌≡◌, option_map};
+ghost use Rattle.clap.specs.Words.{found_of};
+ghost use Rattle.mage_words.specs.Words.{asked_of, solo_of_values, stats_of_values};
+ghost use Rattle.mage_words.specs.Answers.{request_view, solo_view, stats_view, value_in};
+
+use crate::command::CommandName;
+use crate::option::OptionName;
+use crate::request::{Request, Solo, Stats};
+use crate::values::{driver_of, limits, value};
+use clap::ArgMatches;
+
+#[tactic(auto, unfolding(crate::specs::Words::solo_of_values))]
+fn solo_of<'a>(matches: &ArgMatches<'a>) -> Option<Solo<'a>>
+    ensures { option_map solo_view result ≡ solo_of_values (value_in (found_of matches.now)) }
+{
+    let source = value(matches, OptionName::Source)?;
+    let driver = driver_of(value(matches, OptionName::Driver)?)?;
+    let limits = limits(matches)?;
+    Some(Solo {
+        source,
+        garbler: value(matches, OptionName::Garbler),
+        evaluator: value(matches, OptionName::Evaluator),
+        driver,
+        limits,
+    })
+}
+
+#[tactic(auto, unfolding(crate::specs::Words::stats_of_values))]
+fn stats_of<'a>(matches: &ArgMatches<'a>) -> Option<Stats<'a>>
+    ensures { option_map stats_view result ≡ stats_of_values (value_in (found_of matches.now)) }
+{
+    Some(Stats {
+        source: value(matches, OptionName::Source)?,
+        limits: limits(matches)?,
+    })
+}
+
+/// What the values of the command's options ask it for.
+pub fn asked_of<'a>(command: CommandName, matches: &ArgMatches<'a>) -> Option<Request<'a>>
+    ensures { option_map request_view result ≡ asked_of command (value_in (found_of matches.now)) }
+{
+    match command {
+        CommandName::Solo => Some(Request::Solo(solo_of(matches)?)),
+        CommandName::Stats => Some(Request::Stats(stats_of(matches)?)),
+    }
+}
