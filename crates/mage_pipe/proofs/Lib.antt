@@ -1,0 +1,6 @@
+mod Few
+mod FitsTrace
+mod JobCounts
+mod Judging
+mod LeastReads
+mod Walking

@@ -1,0 +1,9 @@
+// What holds of all summaries.
+ghost use Rattle.mage_pipe.specs.Least.{ReadsAreLeast};
+
+/// Proves that the reads of a worker's statistics are the fewest that any plan of residency for its trace has: some plan
+/// reads as many pages, and none reads fewer (L. A. Belady, "A study of replacement algorithms for a virtual-storage
+/// computer", IBM Systems Journal 5, 1966).
+pub fn reads_are_least()
+    ensures { ReadsAreLeast }
+{}

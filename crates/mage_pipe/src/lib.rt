@@ -1,0 +1,21 @@
+//! The passes of the planner in a row: from a text to the program that it unrolls to, and what a plan for it costs.
+#![tactic(auto)]
+
+mod counts;
+mod fault;
+mod laws;
+mod loaded;
+mod loading;
+mod planning;
+mod stats;
+mod worker;
+
+pub use fault::PlanFault;
+pub use laws::reads_are_least;
+pub use loaded::Loaded;
+pub use loading::load;
+pub use planning::{program_stats, summary};
+pub use stats::WorkerStats;
+
+#[cfg(test)]
+mod tests;

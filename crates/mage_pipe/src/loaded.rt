@@ -1,0 +1,10 @@
+// A source that was read.
+use mage_instr::Program;
+use mage_syntax::Source;
+
+/// The tree of a source without a fault, and the program that it unrolls to.
+#[derive(Debug, Drop)]
+pub struct Loaded {
+    pub source: Source,
+    pub program: Program,
+}
