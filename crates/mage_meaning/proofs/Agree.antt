@@ -22,7 +22,7 @@ use Rattle.mage_meaning.specs.declared.known.Wide.{Wide}
 use Rattle.mage_meaning.specs.Given.{Given, list_at}
 use Rattle.mage_meaning.specs.Value as value
 use Rattle.mage_meaning.specs.Value.{Moment}
-use Rattle.mage_meaning.proofs.Results.{cond_ok}
+use Rattle.mage_unroll.proofs.SoundResults.{cond_ok}
 use Rattle.mage_meaning.proofs.Runs.{ran, Extends}
 use Rattle.mage_meaning.proofs.ScopeLemmas.{Both, SameScopes, found-Both, with_name-Same, weaker-Same}
 

@@ -15,7 +15,7 @@ use Rattle.mage_meaning.specs.Given.{Given}
 use Rattle.mage_meaning.specs.Means.{Running, with_value, computed, acted, arg, after_instr}
 use Rattle.mage_meaning.specs.Value.{Moment}
 use Rattle.mage_meaning.proofs.Agree.{Stands, Follows, Agree, SameNames-Extends, EachBelow-push}
-use Rattle.mage_meaning.proofs.Results.{cond_ok, then_ok, same_Ok}
+use Rattle.mage_unroll.proofs.SoundResults.{cond_ok, then_ok, same_Ok}
 use Rattle.mage_meaning.proofs.Runs.{ran, ran-push, length_ran, slice_get_last, with_at-same, Extends, Extends-ran}
 
 -- a state after the variable of a number is known

@@ -26,7 +26,7 @@ use Rattle.mage_meaning.specs.Value.{Moment, wide, ExprValue, value_layer, numbe
 use Rattle.mage_meaning.proofs.Agree.{Stands, Agree, constant-Agree}
 use Rattle.mage_meaning.proofs.EmissionLemmas.{Evaluates, Computes, then_Evaluates, Stands-Extends, value_of_variable, Evaluates-defined}
 use Rattle.mage_meaning.proofs.PlaceLemmas.{place_of-Held, own_place-is, width_at-is}
-use Rattle.mage_meaning.proofs.Results.{below_from_test, cond_ok, cond_some, then_ok, same_Ok, err_not_ok, or_fault_ok}
+use Rattle.mage_unroll.proofs.SoundResults.{below_from_test, cond_ok, cond_some, then_ok, same_Ok, err_not_ok, or_fault_ok}
 use Rattle.mage_meaning.proofs.Runs.{ran, Extends}
 
 -- ---- the opcode of each operator

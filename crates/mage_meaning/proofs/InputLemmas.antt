@@ -19,7 +19,7 @@ use Rattle.mage_meaning.specs.Value as value
 use Rattle.mage_meaning.specs.Value.{Moment, wide, first_of, without_first, is_evaluator, taken, after_taking, with_input}
 use Rattle.mage_meaning.proofs.Agree.{Stands, StandFor, StandFor-Extends, Agree, SameNames-Extends, EachBelow-push, stepped-is, Agree-bound, Agree-stepped, constant-Agree}
 use Rattle.mage_meaning.proofs.EmissionLemmas.{after_emission, defined_is, last_value}
-use Rattle.mage_meaning.proofs.Results.{cond_some, then_ok, same_Ok, or_fault_ok}
+use Rattle.mage_unroll.proofs.SoundResults.{cond_some, then_ok, same_Ok, or_fault_ok}
 use Rattle.mage_meaning.proofs.Runs.{ran, ran-push, Extends, Extends-ran}
 use Rattle.mage_meaning.proofs.WorkerLists.{at-without_first, list_at-without_first, without_none, without_again}
 

@@ -7,7 +7,6 @@ pub mod InputLemmas
 pub mod MoveLemmas
 pub mod PlaceLemmas
 pub mod ProgramLaw
-pub mod Results
 pub mod Runs
 pub mod ScopeLemmas
 pub mod Shifts

@@ -21,7 +21,7 @@ use Rattle.mage_meaning.specs.Value.{Moment}
 use Rattle.mage_meaning.proofs.Agree.{Stands, Agree, SameNames-Extends, EachBelow-push, Agree-bound}
 use Rattle.mage_meaning.proofs.EmissionLemmas.{after_emission, emitted_is, defined_is, last_value, value_of_variable}
 use Rattle.mage_meaning.proofs.PlaceLemmas.{HeldFor}
-use Rattle.mage_meaning.proofs.Results.{then_ok, same_Ok}
+use Rattle.mage_unroll.proofs.SoundResults.{then_ok, same_Ok}
 use Rattle.mage_meaning.proofs.Runs.{ran, ran-push, with_at-same, with_at-other, Extends, Extends-ran}
 
 -- what one worker sent to another that had nothing to take, and what is left once that one takes it

@@ -23,7 +23,7 @@ use Rattle.mage_meaning.specs.Given.{Given}
 use Rattle.mage_meaning.specs.Value as value
 use Rattle.mage_meaning.specs.Value.{Moment, wide}
 use Rattle.mage_meaning.proofs.Agree.{Stands, StandFor, Same, Agree, same_found, constant-Agree}
-use Rattle.mage_meaning.proofs.Results.{cond_ok, cond_some, then_ok, same_Ok, or_fault_ok}
+use Rattle.mage_unroll.proofs.SoundResults.{cond_ok, cond_some, then_ok, same_Ok, or_fault_ok}
 use Rattle.mage_meaning.proofs.Runs.{ran}
 use Rattle.mage_meaning.proofs.ScopeLemmas.{Both}
 

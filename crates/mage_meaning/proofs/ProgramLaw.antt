@@ -20,7 +20,7 @@ use Rattle.mage_meaning.specs.Means.{Running, after_next, run_from, means_of}
 use Rattle.mage_meaning.specs.Value as value
 use Rattle.mage_meaning.specs.Value.{Moment, all_changes, change_of, value_of, worker_count}
 use Rattle.mage_meaning.proofs.Agree.{Agree, EachBelow}
-use Rattle.mage_meaning.proofs.Results.{cond_some, then_ok, same_Ok, or_fault_ok}
+use Rattle.mage_unroll.proofs.SoundResults.{cond_some, then_ok, same_Ok, or_fault_ok}
 use Rattle.mage_meaning.proofs.Runs.{ran, ran-push, length_ran}
 use Rattle.mage_meaning.proofs.StatementLaw.{all_executed-Law}
 use Rattle.mage_meaning.proofs.WorkerLists.{length-below, list_at-map}

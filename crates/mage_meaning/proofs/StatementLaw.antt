@@ -38,7 +38,7 @@ use Rattle.mage_meaning.proofs.ExpressionLaw.{variable_of-Law}
 use Rattle.mage_meaning.proofs.InputLemmas.{length-Agree, input_of-Agree}
 use Rattle.mage_meaning.proofs.MoveLemmas.{moved-Agree}
 use Rattle.mage_meaning.proofs.PlaceLemmas.{StandFor-set, array-Both, item-Held, place_of-Held, own_place-is, width_at-is}
-use Rattle.mage_meaning.proofs.Results.{below_from_test, cond_ok, cond_some, then_ok, same_Ok, or_fault_ok}
+use Rattle.mage_unroll.proofs.SoundResults.{below_from_test, cond_ok, cond_some, then_ok, same_Ok, or_fault_ok}
 use Rattle.mage_meaning.proofs.Runs.{ran, ran-push, Extends-ran}
 use Rattle.mage_meaning.proofs.ScopeLemmas.{replaced-Same, entered-Same, left-Same}
 use Rattle.mage_meaning.proofs.WorkerLists.{list_at-map, map-with_at}

@@ -1,5 +1,5 @@
 -- The widths of instructions that can run.
-use Rattle.std.proofs.Common.{◌≡◌, ◌≤◌, ◌<◌, ℕ, ◌+◌, ◌++◌, ◌∷◌, List, length, drop, get_or, slice_get, Some, IfSome, ap, sym, subst, suc, arith}
+use Rattle.std.proofs.Common.{◌≡◌, ◌≤◌, ◌<◌, ℕ, ◌+◌, ◌++◌, ◌∷◌, List, length, drop, get_or, Some, IfSome, ap, sym, subst, suc, arith}
 use Rattle.std.proofs.Math.Seq.{drop-cons}
 use Rattle.std.proofs.lemmas.Option.{slice_get-get_or}
 use Rattle.mage_instr.specs.declared.instr.Instr.{Instr}

@@ -10,6 +10,7 @@ use Rattle.mage_unroll.specs.Unrolled.{below}
 use Rattle.mage_unroll.specs.declared.state.Emitted.{Emitted}
 use Rattle.mage_meaning.specs.Given.{Given, list_at, with_at}
 
+-- a run of instructions so far
 pub record Running : Type 0 where
   -- the values of each worker's instructions so far; an instruction that defines none counts as 0
   pub values : ℕ → List ℕ

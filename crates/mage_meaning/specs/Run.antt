@@ -4,6 +4,7 @@ use Rattle.mage_scopes.specs.Scopes.{scopes_of}
 use Rattle.mage_meaning.specs.declared.run.Run.{Run}
 use Rattle.mage_meaning.specs.Value.{Moment}
 
+-- the moment that a run is at
 unfoldable pub moment_of : Run → Moment
 moment_of run =
     record {

@@ -25,6 +25,7 @@ use Rattle.mage_meaning.specs.declared.known.Row.{Row}
 use Rattle.mage_meaning.specs.declared.known.Wide.{Wide}
 use Rattle.mage_meaning.specs.Given.{Given, list_at}
 
+-- what is kept while a source is evaluated
 pub record Moment : Type 0 where
   -- the current worker
   pub worker : ℕ
@@ -38,17 +39,21 @@ pub record Moment : Type 0 where
 
 -- ---- names and constants
 
+-- a number of a width
 abbrev pub wide : (width value : ℕ) → Wide
 wide width value = record { width = width; value = value }
 
+-- a meaning as a constant
 abbrev pub as_constant : Option Known → Option ℤ
 as_constant (Some (known.Constant value)) = Some value
 as_constant other = None
 
+-- a meaning as a number, and 0 where it is none
 abbrev pub as_number : Option Known → Wide
 as_number (Some (known.Number number)) = number
 as_number other = wide 1 0
 
+-- a meaning as an array, and an empty one where it is none
 abbrev pub as_row : Option Known → Row
 as_row (Some (known.Array row)) = row
 as_row other = record { width = 1; values = [] }
@@ -57,29 +62,33 @@ as_row other = record { width = 1; values = [] }
 abbrev pub constants_in : List (Meaning Known) → Constants
 constants_in scopes name = as_constant (found scopes name)
 
+-- the constants that are visible
 abbrev pub constants_of : Moment → Constants
 constants_of m = constants_in m.scopes
 
--- the value of a constant
+-- the value of a constant, and 0 where it has a fault
 abbrev pub constant_in : ConstExpr → Moment → ℤ
 constant_in e m = unwrap_or (result_ok (constant_of e (constants_of m))) (pos 0)
 
--- the same as an index, a length, an amount or a value
+-- the same without its sign, as an index, a length, an amount, a worker or a value
 abbrev pub number_in : ConstExpr → Moment → ℕ
 number_in e m = unsigned_abs (constant_in e m)
 
+-- the name stands for this in the innermost scope
 abbrev pub bound : Token → Known → Moment → Moment
 bound name value m = record m { scopes = with_name m.scopes (bytes_of name) value }
 
--- the number at a place
+-- the number that a name stands for, or the one at this index
 abbrev pub item_with : Token → Option (Token × ConstExpr) → Moment → Wide
 item_with name None m = as_number (found m.scopes (bytes_of name))
 item_with name (Some index) m =
     let row = as_row (found m.scopes (bytes_of name)) in wide row.width (slice_index row.values (number_in index.1 m))
 
+-- the number at a place
 abbrev pub item_at : Item → Moment → Wide
 item_at item m = item_with item.name item.index m
 
+-- the width of a type word; of any other 1
 abbrev pub width_or_one : Token → ℕ
 width_or_one ty = unwrap_or (width_of_type (bytes_of ty)) 1
 
@@ -103,6 +112,7 @@ shifted token a amount =
     if row_of token == SHIFT_LEFT then wide a.width (modular.shl_mod a.width a.value amount)
     else wide a.width (modular.shr_mod a.width a.value amount)
 
+-- the number that evaluating gives
 abbrev pub ExprValue : Type 0
 ExprValue = Moment → Wide
 
@@ -111,6 +121,7 @@ abbrev pub chained : List (Token × ExprValue) → Wide → Moment → Wide
 chained [] so_far m = so_far
 chained (term ∷ terms) so_far m = chained terms (combined term.0 so_far (term.1 m)) m
 
+-- a chain of shifts from the left
 abbrev pub all_shifted : List (Token × ConstExpr) → Wide → Moment → Wide
 all_shifted [] so_far m = so_far
 all_shifted (term ∷ terms) so_far m = all_shifted terms (shifted term.0 so_far (number_in term.1 m)) m
@@ -120,6 +131,7 @@ abbrev pub chosen : List Wide → Wide
 chosen (condition ∷ a ∷ b ∷ []) = if condition.value == 1 then a else b
 chosen other = wide 1 0
 
+-- an expression by the numbers of its parts
 unfoldable pub value_layer : Expr-F ExprValue → ExprValue
 value_layer (Expr-F.Item item) m = item_at item m
 value_layer (Expr-F.Paren bracket inner) m = inner m
@@ -138,13 +150,16 @@ number_of_expr = fold-Expr ExprValue value_layer
 
 -- ---- statements
 
+-- what executing does
 abbrev pub Change : Type 0
 Change = Moment → Moment
 
+-- some changes in their order
 abbrev pub all_changes : List Change → Change
 all_changes [] m = m
 all_changes (first ∷ others) m = all_changes others (first m)
 
+-- a change in a scope of its own
 abbrev pub in_scope : Change → Change
 in_scope change m =
     let after = change (record m { scopes = entered m.scopes }) in
@@ -167,6 +182,7 @@ taken party n m = first_of n (list_at (if is_evaluator party then m.evaluator el
 abbrev pub without_first : ℕ → (worker : ℕ) → List (List ℕ) → List (List ℕ)
 without_first n worker lists = set lists worker (drop n (list_at lists worker))
 
+-- what is kept once these are taken
 abbrev pub after_taking : (party : Token) → ℕ → Moment → Moment
 after_taking party n m =
     if is_evaluator party then record m { evaluator = without_first n m.worker m.evaluator }
@@ -197,11 +213,13 @@ turns zero number name body m = m
 turns (suc n) number name body m =
     turns n (number +ℤ pos 1) name body (in_scope (λ inner. body (bound name (known.Constant number) inner)) m)
 
+-- the branch that is taken
 abbrev pub branch : Bool → List Change → Option (List Change) → Change
 branch true body other m = in_scope (all_changes body) m
 branch false body (Some other) m = in_scope (all_changes other) m
 branch false body None m = m
 
+-- a statement by what its parts do
 unfoldable pub change_layer : Stmt-F Change → Change
 change_layer (Stmt-F.Constant word name value) m = bound name (known.Constant (constant_in value m)) m
 change_layer (Stmt-F.Input word party name ty size) m = with_input size party name (width_or_one ty) m
@@ -226,6 +244,7 @@ change_of = fold-Stmt Change change_layer
 
 -- ---- sources
 
+-- how many workers a source has
 abbrev pub worker_count : Option Token → ℕ
 worker_count None = 1
 worker_count (Some number) = number_of number

@@ -13,6 +13,7 @@ abbrev pub imm_of : Party → ℕ
 imm_of party.Garbler = 0
 imm_of party.Evaluator = 1
 
+-- the opcode takes an input value
 abbrev pub is_input : Op → Bool
 is_input op.Input = true
 is_input other = false

@@ -9,6 +9,7 @@ use crate::width::Width;
 use mage_lex::Token;
 use mage_lex::symbols::{AND, EQUALS, LESS, MINUS, PLUS, SHIFT_LEFT, TIMES, XOR};
 
+/// A number of a width.
 pub fn wide(width: Width, value: u64) -> Wide
     ensures { result ≡ wide width value }
 {
@@ -34,6 +35,7 @@ fn multiplied(width: Width, a: u64, b: u64) -> u64
     width.reduced(u128::from(a) * u128::from(b))
 }
 
+/// Each bit turned over.
 pub fn inverted(a: Wide) -> Wide
     ensures { result ≡ wide a.width (not_mod a.width a.value) }
 {
@@ -41,6 +43,7 @@ pub fn inverted(a: Wide) -> Wide
     wide(a.width, ones.saturating_sub(u128::from(a.value)) as u64)
 }
 
+/// The number in another width.
 pub fn resized(width: Width, a: Wide) -> Wide
     ensures { result ≡ wide width (resize_mod width a.value) }
 {
@@ -59,7 +62,7 @@ fn below(width: Width, a: u64, b: u64) -> u64
     u64::from(a < b)
 }
 
-/// A binary operator.
+/// A binary operator on two numbers, in the width of the first; comparisons give one bit.
 #[tactic(auto, unfolding(crate::specs::Value::combined))]
 pub fn combined(op: &Token, a: Wide, b: Wide) -> Wide
     ensures { result ≡ combined op.now a b }
@@ -94,7 +97,7 @@ fn shifted_right(width: Width, a: u64, amount: u128) -> u64
     if amount < 64 { a >> amount as u32 } else { 0 }
 }
 
-/// A shift.
+/// A shift of a number; what leaves its width is lost.
 #[tactic(auto, unfolding(crate::specs::Value::shifted))]
 pub fn shifted(op: &Token, a: Wide, amount: u128) -> Wide
     ensures { result ≡ shifted op.now a amount }

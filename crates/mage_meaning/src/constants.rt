@@ -16,6 +16,7 @@ use mage_lex::symbols::{DIVIDE, MINUS, PLUS, TIMES};
 use mage_scopes::Scopes;
 use mage_syntax::{ConstExpr, bytes_of};
 
+// A number that is written, where it is in the range of constants.
 fn ranged(value: u128) -> Option<i128>
     ensures { result ≡ ranged (pos value) }
 {
@@ -80,6 +81,7 @@ fn operated(row: u8, x: i128, y: i128) -> Option<i128>
     }
 }
 
+// The constant that a name stands for, by its meaning.
 fn as_constant(value: Option<&Known>) -> Option<i128>
     ensures { result ≡ as_constant (option_copied value.entry) }
 {
@@ -89,6 +91,7 @@ fn as_constant(value: Option<&Known>) -> Option<i128>
     }
 }
 
+// The constant that a name stands for.
 fn named(names: &Scopes<'_, Known>, name: &Token) -> Option<i128>
     ensures { result ≡ constants_in (scopes_of names.now) (bytes_of name.now) }
 {
@@ -138,7 +141,7 @@ pub fn constant_in(run: &Run<'_>, value: &ConstExpr) -> i128
     constant_of(&run.names, value).unwrap_or(0)
 }
 
-/// The same as an index, a length, an amount or a value.
+/// The same without its sign, as an index, a length, an amount, a worker or a value.
 pub fn number_in(run: &Run<'_>, value: &ConstExpr) -> u128
     ensures { result ≡ number_in value.now (moment_of run.now) }
 {

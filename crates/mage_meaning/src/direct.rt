@@ -19,6 +19,7 @@ use mage_scopes::Scopes;
 use mage_syntax::Source;
 use std::alloc::Global;
 
+// The lists as slices, from which values can be taken.
 fn slices(alloc: Global, lists: &[Vec<u64>]) -> Result<Vec<&[u64]>, Memory>
     ensures { IfOk result (λ slices. map (λ own. own.now) slices.items ≡ map (λ own. own.items) lists.now) }
 {
@@ -29,6 +30,7 @@ fn slices(alloc: Global, lists: &[Vec<u64>]) -> Result<Vec<&[u64]>, Memory>
     Ok(slices)
 }
 
+// How many workers a source has.
 fn worker_count(workers: Option<&Token>) -> u128
     ensures { result ≡ worker_count (option_copied workers.entry) }
 {
@@ -38,6 +40,7 @@ fn worker_count(workers: Option<&Token>) -> u128
     }
 }
 
+// An empty list for each worker.
 fn no_outputs(alloc: Global, workers: u128) -> Result<Vec<Vec<u64>>, Memory>
     ensures { IfOk result (λ outputs. map (λ own. own.items) outputs.items ≡ replicate workers []) }
 {
@@ -49,6 +52,7 @@ fn no_outputs(alloc: Global, workers: u128) -> Result<Vec<Vec<u64>>, Memory>
     Ok(outputs)
 }
 
+// How a run begins.
 fn opening<'a>(alloc: Global, workers: u128, inputs: &'a Inputs) -> Result<Run<'a>, Memory>
     ensures { IfOk result (λ run. moment_of run ≡ opening workers inputs.now) }
 {

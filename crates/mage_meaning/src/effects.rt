@@ -30,6 +30,7 @@ pub fn bind<'a>(run: &mut Run<'a>, name: &'a Token, value: Known) -> Result<(), 
 
 // ---- inputs
 
+// The values of a worker, of whom there may be none.
 fn list_at<'a>(lists: &[&'a [u64]], worker: u128) -> &'a [u64]
     ensures { result.now ≡ list_at (map (λ own. own.now) lists.now) worker }
 {
@@ -40,13 +41,14 @@ fn list_at<'a>(lists: &[&'a [u64]], worker: u128) -> &'a [u64]
     }
 }
 
+// The values without the first so many.
 fn without(values: &[u64], count: usize) -> &[u64]
     ensures { result.now ≡ drop count values.now }
 {
     values.get(count..).unwrap_or(&[])
 }
 
-// Takes the first values from a worker's list.
+// A worker's list loses its first values.
 fn take_first(lists: &mut Vec<&[u64]>, worker: u128, count: usize)
     ensures { map (λ own. own.now) lists.new.items ≡ without_first count worker (map (λ own. own.now) lists.old.items) }
 {
@@ -87,6 +89,7 @@ pub fn take(run: &mut Run<'_>, party: &Token, count: usize) -> Result<Items<u64>
 
 // ---- outputs
 
+// One output more of a worker.
 fn add_output(outputs: &mut Vec<Vec<u64>>, worker: u128, value: u64) -> Result<(), Memory>
     ensures { OnOk result (map (λ own. own.items) outputs.new.items
         ≡ with_output (map (λ own. own.items) outputs.old.items) worker value) }
@@ -108,6 +111,7 @@ pub fn give_out(run: &mut Run<'_>, value: u64) -> Result<(), Memory>
 
 // ---- assignments
 
+// The row with another value at a place, if it has that place.
 fn set_entry(row: Row, position: u128, value: u64) -> Row
     ensures { result ≡ record row { values = set row.values position value } }
 {

@@ -13,6 +13,7 @@ use crate::width::{Width, width_or_one};
 use mage_lex::Token;
 use mage_syntax::{ConstExpr, Expr};
 
+// The number of a literal.
 fn literal(run: &Run<'_>, ty: &Token, value: &ConstExpr) -> Wide
     ensures { result ≡ wide (width_or_one ty.now)
         (resize_mod (width_or_one ty.now) (number_in value.now (moment_of run.now))) }

@@ -22,6 +22,7 @@ pub fn entry(values: &[u64], position: u128) -> u64
     }
 }
 
+// The number that a name stands for.
 fn as_number(value: Option<&Known>) -> Wide
     ensures { result ≡ as_number (option_copied value.entry) }
 {
@@ -31,6 +32,7 @@ fn as_number(value: Option<&Known>) -> Wide
     }
 }
 
+// The number at a place in the array that a name stands for.
 fn item_of(value: Option<&Known>, position: u128) -> Wide
     ensures { result ≡ wide (as_row (option_copied value.entry)).width
         (slice_index (as_row (option_copied value.entry)).values position) }
@@ -41,6 +43,7 @@ fn item_of(value: Option<&Known>, position: u128) -> Wide
     }
 }
 
+// The number that a name stands for, or the one at this index.
 #[tactic(auto, unfolding(crate::specs::Run::moment_of))]
 fn item_with(run: &Run<'_>, name: &Token, index: &Option<(Token, ConstExpr)>) -> Wide
     ensures { result ≡ item_with name.now index.now (moment_of run.now) }

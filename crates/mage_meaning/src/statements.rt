@@ -4,7 +4,7 @@
 ghost use Rattle.std.specs.Prelude.{◌≡◌, ◌+ℤ◌, pos, map, replicate, OnOk, IfOk};
 ghost use Rattle.mage_unroll.specs.Statements.{distance, holds};
 ghost use Rattle.mage_meaning.specs.Run.{moment_of};
-ghost use Rattle.mage_meaning.specs.Value.{bound, constant_in, number_in, number_of_expr, width_or_one, with_input, all_changes, in_scope, turns, change_of};
+ghost use Rattle.mage_meaning.specs.Value.{bound, constant_in, number_in, number_of_expr, width_or_one, with_input, all_changes, in_scope, turns, change_of, assigned, item_at, with_output};
 ghost use Rattle.mage_meaning.specs.declared.known.Known.TheVariants as known;
 
 use crate::arithmetic::wide;
@@ -19,7 +19,7 @@ use crate::width::{Width, width_or_one};
 use mage_base::Memory;
 use mage_lex::Token;
 use mage_lex::symbols::EQUALS;
-use mage_syntax::{ConstExpr, Expr, Stmt};
+use mage_syntax::{ConstExpr, Expr, Item, Stmt};
 use sqlite_items::Items;
 use std::alloc::Global;
 
@@ -30,6 +30,7 @@ pub fn size_of_list(length: u128) -> Result<usize, Memory>
     usize::try_from(length).map_err(|_| Memory)
 }
 
+// The statement `input`, of a scalar or of an array of this length.
 #[tactic(auto, unfolding(crate::specs::Run::moment_of, crate::specs::Value::with_input))]
 fn input<'a>(
     run: &mut Run<'a>,
@@ -54,12 +55,14 @@ fn input<'a>(
     }
 }
 
+// The values of an array, each the same.
 fn copies(alloc: Global, count: usize, value: u64) -> Result<Items<u64>, Memory>
     ensures { IfOk result (λ items. items ≡ replicate count value) }
 {
     Ok(Items::from_vec(vec![in alloc; value; count]?))
 }
 
+// The statement `array`.
 fn array<'a>(
     run: &mut Run<'a>,
     name: &'a Token,
@@ -87,6 +90,54 @@ fn holds(op: &Token, a: i128, b: i128) -> bool
     if row_of(op) == EQUALS { a == b } else { a < b }
 }
 
+// The statement `const`.
+fn constant<'a>(run: &mut Run<'a>, name: &'a Token, value: &ConstExpr) -> Result<(), Memory>
+    ensures { OnOk result (moment_of run.new ≡ bound name.now
+        (known.Constant (constant_in value.now (moment_of run.old))) (moment_of run.old)) }
+{
+    let number = constant_in(run, value);
+    bind(run, name, Known::Constant(number))
+}
+
+// The statement `let`.
+fn declare<'a>(run: &mut Run<'a>, name: &'a Token, value: &Expr) -> Result<(), Memory>
+    ensures { OnOk result (moment_of run.new ≡ bound name.now
+        (known.Number (number_of_expr value.now (moment_of run.old))) (moment_of run.old)) }
+{
+    let number = number_of_expr(run, value);
+    bind(run, name, Known::Number(number))
+}
+
+// An assignment. It takes no memory, and answers as the other statements do.
+fn rebind(run: &mut Run<'_>, place: &Item, value: &Expr) -> Result<(), Memory>
+    ensures { OnOk result (moment_of run.new ≡ assigned place.now.name place.now.index
+        (number_of_expr value.now (moment_of run.old)) (moment_of run.old)) }
+{
+    let number = number_of_expr(run, value);
+    assign(run, &place.name, &place.index, number);
+    Ok(())
+}
+
+// The statement `move`.
+fn receive<'a>(run: &mut Run<'a>, name: &'a Token, place: &Item) -> Result<(), Memory>
+    ensures { OnOk result (moment_of run.new ≡ bound name.now
+        (known.Number (item_at place.now (moment_of run.old))) (moment_of run.old)) }
+{
+    let number = item_at(run, place);
+    bind(run, name, Known::Number(number))
+}
+
+// The statement `output`.
+fn output(run: &mut Run<'_>, value: &Expr) -> Result<(), Memory>
+    ensures { OnOk result (moment_of run.new ≡ record (moment_of run.old) {
+      outputs = with_output (moment_of run.old).outputs (moment_of run.old).worker
+          (number_of_expr value.now (moment_of run.old)).value;
+    }) }
+{
+    let number = number_of_expr(run, value);
+    give_out(run, number.value)
+}
+
 /// What a statement does.
 #[cycle(statements)]
 #[tactic(auto, unfolding(crate::specs::Value::change_of, crate::specs::Value::change_layer))]
@@ -94,10 +145,7 @@ pub fn execute<'a>(run: &mut Run<'a>, statement: &'a Stmt) -> Result<(), Memory>
     ensures { OnOk result (moment_of run.new ≡ change_of statement.now (moment_of run.old)) }
 {
     match statement {
-        Stmt::Constant { name, value, .. } => {
-            let number = constant_in(run, value);
-            bind(run, name, Known::Constant(number))
-        }
+        Stmt::Constant { name, value, .. } => constant(run, name, value),
         Stmt::Input {
             party,
             name,
@@ -105,25 +153,15 @@ pub fn execute<'a>(run: &mut Run<'a>, statement: &'a Stmt) -> Result<(), Memory>
             length,
             ..
         } => input(run, length, party, name, width_or_one(ty)),
-        Stmt::Let { name, value, .. } => {
-            let number = number_of_expr(run, value);
-            bind(run, name, Known::Number(number))
-        }
+        Stmt::Let { name, value, .. } => declare(run, name, value),
         Stmt::Array {
             name,
             length,
             value,
             ..
         } => array(run, name, &length.1, value),
-        Stmt::Assign { place, value, .. } => {
-            let number = number_of_expr(run, value);
-            assign(run, &place.name, &place.index, number);
-            Ok(())
-        }
-        Stmt::Move { name, place, .. } => {
-            let number = item_at(run, place);
-            bind(run, name, Known::Number(number))
-        }
+        Stmt::Assign { place, value, .. } => rebind(run, place, value),
+        Stmt::Move { name, place, .. } => receive(run, name, place),
         Stmt::On { worker, body, .. } => on_worker(run, body.as_slice(), worker),
         Stmt::For {
             name,
@@ -131,11 +169,7 @@ pub fn execute<'a>(run: &mut Run<'a>, statement: &'a Stmt) -> Result<(), Memory>
             to,
             body,
             ..
-        } => {
-            let first = constant_in(run, from);
-            let end = constant_in(run, to);
-            repeat(run, name, first, end, body.as_slice())
-        }
+        } => repeat(run, body.as_slice(), name, from, to),
         Stmt::If {
             left,
             op,
@@ -152,10 +186,7 @@ pub fn execute<'a>(run: &mut Run<'a>, statement: &'a Stmt) -> Result<(), Memory>
                 Ok(())
             }
         }
-        Stmt::Output { value, .. } => {
-            let number = number_of_expr(run, value);
-            give_out(run, number.value)
-        }
+        Stmt::Output { value, .. } => output(run, value),
     }
 }
 
@@ -181,6 +212,7 @@ fn block<'a>(run: &mut Run<'a>, body: &'a [Stmt]) -> Result<(), Memory>
     Ok(())
 }
 
+// Statements on the worker that the constant names; the current worker is the one before again afterwards.
 #[cycle(statements)]
 fn on_worker<'a>(run: &mut Run<'a>, body: &'a [Stmt], worker: &ConstExpr) -> Result<(), Memory>
     ensures { OnOk result (moment_of run.new ≡ record (all_changes (map change_of body.now)
@@ -194,9 +226,27 @@ fn on_worker<'a>(run: &mut Run<'a>, body: &'a [Stmt], worker: &ConstExpr) -> Res
     Ok(())
 }
 
-// One turn for each number from the first to below the second.
+// A turn for each number from the first constant to below the second.
 #[cycle(statements)]
 fn repeat<'a>(
+    run: &mut Run<'a>,
+    body: &'a [Stmt],
+    name: &'a Token,
+    from: &ConstExpr,
+    to: &ConstExpr,
+) -> Result<(), Memory>
+    ensures { OnOk result (moment_of run.new ≡ turns
+        (distance (constant_in from.now (moment_of run.old)) (constant_in to.now (moment_of run.old)))
+        (constant_in from.now (moment_of run.old)) name.now (all_changes (map change_of body.now)) (moment_of run.old)) }
+{
+    let first = constant_in(run, from);
+    let end = constant_in(run, to);
+    turns(run, name, first, end, body)
+}
+
+// One turn for each number from the first to below the end.
+#[cycle(statements)]
+fn turns<'a>(
     run: &mut Run<'a>,
     name: &'a Token,
     first: i128,

@@ -25,6 +25,7 @@ impl Model for Width {
 }
 
 impl Width {
+    /// The width of so many bits.
     pub fn new(bits: u8) -> Self
         requires { bits ≤ 64 }
         ensures { result ≡ bits }
@@ -32,7 +33,7 @@ impl Width {
         Width { bits }
     }
 
-    // 2 to the width.
+    /// 2 to the width.
     pub fn modulus(self) -> u128
         ensures value { result ≡ 2 ^ self }
         ensures least { 1 ≤ result }
@@ -42,7 +43,7 @@ impl Width {
         1u128 << self.bits
     }
 
-    // A value modulo 2 to the width.
+    /// A value modulo 2 to the width.
     pub fn reduced(self, value: u128) -> u64
         ensures { result ≡ value % 2 ^ self }
     {

@@ -19,6 +19,7 @@ fn imm_of(party: Party) -> u64
     }
 }
 
+// Whether an instruction takes a value of this party.
 fn is_input_of(instr: &Instr, whose: Party) -> bool
     ensures { result ≡ is_input_of whose instr.now }
 {

@@ -9,7 +9,7 @@ mod SoundLists
 mod SoundNames
 mod SoundPlaces
 pub mod SoundPrograms
-mod SoundResults
+pub mod SoundResults
 mod SoundStates
 mod SoundStatements
 mod Trees

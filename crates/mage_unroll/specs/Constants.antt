@@ -14,6 +14,7 @@ use Rattle.mage_syntax.specs.declared.tree.ConstExpr.TheFolds.{fold-ConstExpr}
 use Rattle.mage_syntax.specs.Words.{bytes_of}
 
 infixl 10 ◌>>=◌
+-- one thing after another, up to the first fault
 abbrev pub ◌>>=◌ : {A B : Type 0} → Result A LangFault → (A → Result B LangFault) → Result B LangFault
 (Ok x) >>= f = f x
 (Err e) >>= f = Err e
@@ -27,19 +28,21 @@ abbrev pub or_fault : {A : Type 0} → LangKind → Token → Option A → Resul
 or_fault kind token None = Err (fault_at kind token)
 or_fault kind token (Some x) = Ok x
 
--- the row of a symbol
+-- the row of a symbol; of another token 0
 abbrev pub row_in : TokenKind → ℕ
 row_in (kinds.Symbol row) = row
 row_in other = 0
 
+-- the same of a token
 abbrev pub row_of : Token → ℕ
 row_of token = row_in token.kind
 
+-- the value of a number; of another token 0
 abbrev pub number_in : TokenKind → ℕ
 number_in (kinds.Number value) = value
 number_in other = 0
 
--- the value of a number
+-- the same of a token
 abbrev pub number_of : Token → ℕ
 number_of token = number_in token.kind
 
@@ -78,6 +81,7 @@ const_chain (term ∷ terms) names so_far = do
   value ← or_fault wrong.ConstFault term.0 (operated (row_of term.0) so_far operand)
   const_chain terms names value
 
+-- a constant by what its parts stand for
 unfoldable pub const_layer : ConstExpr-F ConstMeaning → ConstMeaning
 const_layer (ConstExpr-F.Number token) names = or_fault wrong.ConstFault token (ranged (pos (number_of token)))
 const_layer (ConstExpr-F.Name token) names = or_fault wrong.UnknownName token (names (bytes_of token))
@@ -89,5 +93,6 @@ const_layer (ConstExpr-F.Chain first rest) names = do
   value ← first names
   const_chain rest names value
 
+-- what a constant stands for, by the constants that its names stand for
 unfoldable pub constant_of : ConstExpr → ConstMeaning
 constant_of = fold-ConstExpr ConstMeaning const_layer

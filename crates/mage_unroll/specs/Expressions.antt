@@ -43,6 +43,7 @@ literal_in width z = if int_le (pos 0) z && int_lt z (pos (2 ^ width)) then Some
 abbrev pub Evaluated : Type 0
 Evaluated = Result (Variable × State) LangFault
 
+-- what evaluating gives
 abbrev pub ExprMeaning : Type 0
 ExprMeaning = (word : Token) → State → Evaluated
 
@@ -90,6 +91,7 @@ chosen word keyword (condition ∷ a ∷ b ∷ []) s = do
   defined word (instr_of op.Mux a.width (condition.index ∷ a.index ∷ b.index ∷ []) 0) s
 chosen word keyword other s = Err (fault_at wrong.WidthDiffers keyword)
 
+-- an expression by what its parts give
 unfoldable pub expr_layer : Expr-F ExprMeaning → ExprMeaning
 expr_layer (Expr-F.Item item) word s = do
   held ← own_place item s

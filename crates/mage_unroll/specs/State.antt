@@ -20,6 +20,7 @@ use Rattle.mage_unroll.specs.declared.state.Scalar.{Scalar}
 use Rattle.mage_unroll.specs.declared.state.Variable.{Variable}
 use Rattle.mage_unroll.specs.Constants.{◌>>=◌, fault_at, or_fault, Constants, constant_of}
 
+-- what is kept
 pub record State : Type 0 where
   -- the current worker
   pub worker : ℕ
@@ -38,6 +39,7 @@ pub record State : Type 0 where
 abbrev pub stepped_by : ℕ → (word : Token) → State → Result State LangFault
 stepped_by n word s = if nat_le (s.steps + n) 16000000 then Ok (record s { steps = s.steps + n }) else Err (fault_at wrong.TooLong word)
 
+-- one step more
 abbrev pub stepped : (word : Token) → State → Result State LangFault
 stepped word s = stepped_by 1 word s
 
@@ -52,6 +54,7 @@ emitted word worker instr s =
 abbrev pub count_of : (worker : ℕ) → List Emitted → ℕ
 count_of worker program = length (filter (λ e. e.worker == worker) program)
 
+-- the instruction of these parts
 abbrev pub instr_of : Op → (width : ℕ) → (args : List ℕ) → (imm : ℕ) → Instr
 instr_of op width args imm = record { op = op; width = width; args = args; imm = imm }
 
@@ -71,14 +74,17 @@ is_free name s = if is_some (found s.scopes (bytes_of name)) then Err (fault_at 
 abbrev pub bound : Token → Named → State → State
 bound name value s = record s { scopes = with_name s.scopes (bytes_of name) value }
 
+-- a meaning as a constant
 abbrev pub as_constant : Option Named → Option ℤ
 as_constant (Some (named.Constant value)) = Some value
 as_constant other = None
 
+-- a meaning as a scalar
 abbrev pub as_scalar : Option Named → Option Scalar
 as_scalar (Some (named.Scalar scalar)) = Some scalar
 as_scalar other = None
 
+-- a meaning as an array
 abbrev pub as_array : Option Named → Option Array
 as_array (Some (named.Array array)) = Some array
 as_array other = None
@@ -87,14 +93,17 @@ as_array other = None
 abbrev pub constants_in : List (Meaning Named) → Constants
 constants_in scopes name = as_constant (found scopes name)
 
+-- the constants that are visible
 abbrev pub constants_of : State → Constants
 constants_of s = constants_in s.scopes
 
 -- ---- places
 
+-- a scalar as what a place holds
 abbrev pub held_scalar : Scalar → Held
 held_scalar scalar = record { worker = scalar.worker; variable = scalar.variable; position = None }
 
+-- an item of an array as what a place holds
 abbrev pub held_item : Array → (position index : ℕ) → Held
 held_item array position index = record { worker = array.worker; variable = record { width = array.width; index = index }; position = Some position }
 
@@ -102,7 +111,7 @@ held_item array position index = record { worker = array.worker; variable = reco
 abbrev pub position_of : ℤ → Array → Option ℕ
 position_of index array = if int_le (pos 0) index && int_lt index (pos (length array.items)) then Some (unsigned_abs index) else None
 
--- an index of an array
+-- an item of an array, by its index
 unfoldable pub item_of : Token → ConstExpr → Array → State → Result Held LangFault
 item_of name index array s = do
   value ← constant_of index (constants_of s)
@@ -119,6 +128,7 @@ place_with name (Some index) s = do
   array ← or_fault wrong.UnknownName name (as_array (found s.scopes (bytes_of name)))
   item_of name index.1 array s
 
+-- what a place stands for
 abbrev pub place_of : Item → State → Result Held LangFault
 place_of item s = place_with item.name item.index s
 
@@ -134,6 +144,7 @@ rebound None index (named.Scalar scalar) = named.Scalar (record scalar { variabl
 rebound (Some position) index (named.Array array) = named.Array (record array { items = set array.items position index })
 rebound position index other = other
 
+-- a name, where it stands for something, is bound anew
 abbrev pub rebound_name : Option Named → (name : Token) → Option ℕ → (index : ℕ) → State → State
 rebound_name None name position index s = s
 rebound_name (Some old) name position index s = record s { scopes = replaced s.scopes (bytes_of name) (rebound position index old) }
@@ -144,7 +155,7 @@ assigned name position index s = rebound_name (found s.scopes (bytes_of name)) n
 
 -- ---- widths
 
--- the width of a type word
+-- the width of a type word, or a fault at it
 abbrev pub width_at : Token → Result ℕ LangFault
 width_at ty = or_fault wrong.BadWidth ty (width_of_type (bytes_of ty))
 

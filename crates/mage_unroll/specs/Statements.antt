@@ -48,18 +48,21 @@ in_scope act s = do
   after ← act (entering s)
   Ok (leaving after)
 
--- the length of an array
+-- a number as the length of an array
 abbrev pub length_in : ℤ → Option ℕ
 length_in z = if int_le (pos 0) z then Some (unsigned_abs z) else None
 
+-- the length of an array, with its bracket
 unfoldable pub length_at : Token × ConstExpr → State → Result ℕ LangFault
 length_at size s = do
   value ← constant_of size.1 (constants_of s)
   or_fault wrong.ConstFault size.0 (length_in value)
 
+-- a name of a scalar
 abbrev pub named_scalar : (worker : ℕ) → Variable → Named
 named_scalar worker variable = named.Scalar (record { worker = worker; variable = variable })
 
+-- a name of an array
 abbrev pub named_array : (worker width : ℕ) → List ℕ → Named
 named_array worker width items = named.Array (record { worker = worker; width = width; items = items })
 
@@ -99,6 +102,7 @@ moved word name held s =
       value ← transferred word held s
       Ok (bound name (named_scalar s.worker value.0) value.1))
 
+-- the first token by those of the parts
 abbrev pub first_layer : ConstExpr-F Token → Token
 first_layer (ConstExpr-F.Number token) = token
 first_layer (ConstExpr-F.Name token) = token
@@ -149,6 +153,7 @@ branch true body other s = in_scope (all_acts body) s
 branch false body (Some other) s = in_scope (all_acts other) s
 branch false body None s = Ok s
 
+-- a statement by what its parts do
 unfoldable pub stmt_layer : Stmt-F Act → Act
 stmt_layer (Stmt-F.Constant word name value) s = do
   s ← stepped word s

@@ -17,6 +17,7 @@ use Rattle.mage_unroll.specs.Statements.{all_acts, executed}
 abbrev pub workers_in : ℕ → Option ℕ
 workers_in n = if n == 1 then Some n else None
 
+-- the same of a source, which may leave it out
 abbrev pub workers_of : Option Token → Result ℕ LangFault
 workers_of None = Ok 1
 workers_of (Some number) = or_fault wrong.BadWorker number (workers_in (number_of number))

@@ -35,6 +35,7 @@ pub fn number_of(token: &Token) -> u128
     }
 }
 
+// A number that is written, where it is in the range of constants.
 fn ranged(value: u128) -> Option<i128>
     ensures { result ≡ ranged (pos value) }
 {
@@ -51,7 +52,7 @@ fn added(x: i128, y: i128) -> Option<i128>
     x.checked_add(y)
 }
 
-fn taken(x: i128, y: i128) -> Option<i128>
+fn subtracted(x: i128, y: i128) -> Option<i128>
     ensures { result ≡ ranged (x -ℤ y) }
 {
     x.checked_sub(y)
@@ -92,13 +93,14 @@ fn operated(row: u8, x: i128, y: i128) -> Option<i128>
 {
     match row {
         PLUS => added(x, y),
-        MINUS => taken(x, y),
+        MINUS => subtracted(x, y),
         TIMES => multiplied(x, y),
         DIVIDE => divided(x, y),
         _ => remainder(x, y),
     }
 }
 
+// The value, and `ConstFault` at the token where there is none.
 fn in_range(token: &Token, value: Option<i128>) -> Result<i128, LangFault>
     ensures { Gives (λ z. z) result (or_fault wrong.ConstFault token.now value) }
 {
@@ -114,6 +116,7 @@ fn as_constant(value: Option<&Named>) -> Option<i128>
     }
 }
 
+// The constant that a name stands for.
 fn named(names: &Scopes<'_, Named>, name: &Token) -> Result<i128, LangFault>
     ensures { Gives (λ z. z) result (or_fault wrong.UnknownName name.now (constants_in (scopes_of names.now) (bytes_of name.now))) }
 {

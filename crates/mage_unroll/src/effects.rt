@@ -1,5 +1,6 @@
-#![tactic(auto, unfolding(crate::specs::Unroller::state_of))]
 // Steps, instructions and names.
+#![tactic(auto, unfolding(crate::specs::Unroller::state_of))]
+
 ghost use Rattle.std.specs.Prelude.{◌≡◌, ◌≤◌, Ok, OnOk};
 ghost use Rattle.mage_instr.specs.Opcodes.{width_of_result};
 ghost use Rattle.mage_unroll.specs.Answer.{Gives};
@@ -14,17 +15,20 @@ use mage_instr::{Instr, Op, result_width};
 use mage_lex::{LangFault, LangKind, Token};
 use mage_syntax::bytes_of;
 
+// How many steps a program may have.
 const MOST_STEPS: u32 = 16_000_000;
 
+// How many instructions a program may have.
 const MOST_INSTRS: usize = 2_000_000;
 
+// The width of the result of an instruction; its own where it has none.
 fn width_of_result(op: Op, width: u8) -> u8
     ensures { result ≡ width_of_result op width }
 {
     result_width(op, width).unwrap_or(width)
 }
 
-/// Whether two widths are the same.
+/// Refuses two widths that differ, at this token.
 pub fn is_as_wide(token: &Token, width: u8, other: u8) -> Result<(), LangFault>
     ensures { Gives (λ x. x) result (is_as_wide token.now width other) }
 {

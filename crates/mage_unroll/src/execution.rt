@@ -91,6 +91,7 @@ fn block<'a>(unroller: &mut Unroller<'a>, body: &'a [Stmt]) -> Result<(), LangFa
     Ok(())
 }
 
+// Statements on the worker that the constant names; the current worker is the one before again afterwards.
 #[cycle(statements)]
 #[tactic(auto, unfolding(crate::specs::Unroller::state_of, crate::specs::Statements::stmt_layer))]
 fn on_worker<'a>(
@@ -112,6 +113,7 @@ fn on_worker<'a>(
     Ok(())
 }
 
+// The header of a `for`, and its turns.
 #[cycle(statements)]
 #[tactic(auto, unfolding(crate::specs::Unroller::state_of, crate::specs::Statements::stmt_layer))]
 fn repeat<'a>(
@@ -151,6 +153,7 @@ fn turns<'a>(
     Ok(())
 }
 
+// A turn of a loop: a step, and then the statements in a scope of their own.
 #[cycle(statements)]
 fn turn<'a>(
     unroller: &mut Unroller<'a>,

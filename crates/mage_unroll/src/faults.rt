@@ -4,6 +4,7 @@ ghost use Rattle.mage_unroll.specs.Constants.{fault_at};
 
 use mage_lex::{LangFault, LangKind, Token};
 
+/// A fault of this kind at a token.
 pub fn fault_at(kind: LangKind, token: &Token) -> LangFault
     ensures { result ≡ fault_at kind token.now }
 {

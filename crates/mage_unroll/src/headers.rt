@@ -25,7 +25,7 @@ pub fn first_token(constant: &ConstExpr) -> &Token
     }
 }
 
-/// The worker of this number, of so many.
+/// The worker of this number, where it is one of so many.
 pub fn worker_in(workers: u8, number: i128) -> Option<u8>
     ensures { result ≡ worker_in workers number }
 {

@@ -19,6 +19,7 @@ use mage_lex::symbols::{AND, EQUALS, LESS, MINUS, PLUS, SHIFT_LEFT, TIMES, XOR};
 use mage_lex::{LangFault, LangKind, Token};
 use mage_syntax::{ConstExpr, bytes_of, width_of_type};
 
+// The opcode of a binary operator.
 #[tactic(auto, unfolding(crate::specs::Expressions::op_of))]
 fn op_of(token: &Token) -> Op
     ensures { result ≡ op_of token.now }
@@ -35,6 +36,7 @@ fn op_of(token: &Token) -> Op
     }
 }
 
+// The opcode of a shift.
 #[tactic(auto, unfolding(crate::specs::Expressions::shift_of))]
 fn shift_of(token: &Token) -> Op
     ensures { result ≡ shift_of token.now }
@@ -46,7 +48,7 @@ fn shift_of(token: &Token) -> Op
     }
 }
 
-// The amount of a shift.
+// A constant as the amount of a shift: 0 to 64.
 fn amount_in(value: i128) -> Option<u64>
     ensures { result ≡ amount_in value }
 {
@@ -57,7 +59,7 @@ fn amount_in(value: i128) -> Option<u64>
     }
 }
 
-// The value of a literal of this width.
+// A constant as the value of a literal of this width: 0 to 2^width - 1.
 fn literal_in(width: u8, value: i128) -> Option<u64>
     requires { width ≤ 64 }
     ensures { result ≡ literal_in width value }
@@ -69,7 +71,7 @@ fn literal_in(width: u8, value: i128) -> Option<u64>
     }
 }
 
-/// The width of a type word.
+/// The width of a type word, and `BadWidth` at one that is no type.
 pub fn width_at(ty: &Token) -> Result<u8, LangFault>
     ensures value { Gives (λ x. x) result (width_at ty.now) }
     ensures in_range { IfOk result (λ width. width ≤ 64) }

@@ -1,5 +1,6 @@
-#![tactic(auto, unfolding(crate::specs::Unroller::state_of, crate::specs::State::item_of, crate::specs::State::place_with, crate::specs::State::own_place))]
 // Places: a name, or an item of an array.
+#![tactic(auto, unfolding(crate::specs::Unroller::state_of, crate::specs::State::item_of, crate::specs::State::place_with, crate::specs::State::own_place))]
+
 ghost use Rattle.std.specs.Prelude.{◌≡◌, Some, None};
 ghost use Rattle.std.specs.Option.{option_copied};
 ghost use Rattle.mage_scopes.specs.Scopes.{scopes_of, found};
@@ -59,6 +60,7 @@ fn rebound(old: Named, position: Option<usize>, index: u32) -> Named
 }
 
 impl Unroller<'_> {
+    // The scalar that a name stands for.
     fn scalar(&self, name: &Token) -> Result<Held, LangFault>
         ensures { Gives (λ x. x) result (place_with name.now None (state_of self.now)) }
     {
@@ -72,6 +74,7 @@ impl Unroller<'_> {
         })
     }
 
+    // The item of an array at an index, and `IndexOut` at the array's name where there is none.
     fn item_of(&self, name: &Token, index: &ConstExpr, array: &Array) -> Result<Held, LangFault>
         ensures { Gives (λ x. x) result (item_of name.now index.now array.now (state_of self.now)) }
     {
@@ -87,6 +90,7 @@ impl Unroller<'_> {
         })
     }
 
+    // The item at an index of the array that a name stands for.
     fn array_item(&self, name: &Token, index: &(Token, ConstExpr)) -> Result<Held, LangFault>
         ensures { Gives (λ x. x) result (place_with name.now (Some index.now) (state_of self.now)) }
     {
@@ -117,7 +121,7 @@ impl Unroller<'_> {
         }
     }
 
-    /// Binds a place anew.
+    /// The place stands for another variable, of the same width and worker.
     pub fn assign(&mut self, name: &Token, position: Option<usize>, index: u32)
         ensures { state_of self.new ≡ assigned name.now position index (state_of self.old) }
     {

@@ -2,7 +2,7 @@
 use mage_instr::Instr;
 use sqlite_items::Items;
 
-/// A value that an instruction of the current worker defines.
+/// A value that an instruction of a worker defines.
 #[derive(Clone, Copy, Debug)]
 pub struct Variable {
     /// Its width in bits, 1 to 64.
@@ -14,6 +14,7 @@ pub struct Variable {
 /// What the name of a scalar stands for.
 #[derive(Clone, Copy, Debug)]
 pub struct Scalar {
+    /// The worker that has the variable.
     pub worker: u8,
     pub variable: Variable,
 }
@@ -21,6 +22,7 @@ pub struct Scalar {
 /// What the name of an array stands for.
 #[derive(Debug, Drop)]
 pub struct Array {
+    /// The worker that has the items.
     pub worker: u8,
     /// The width of each item.
     pub width: u8,
@@ -46,6 +48,7 @@ pub struct Emitted {
 /// What a place stands for.
 #[derive(Clone, Copy, Debug)]
 pub struct Held {
+    /// The worker that has the variable.
     pub worker: u8,
     pub variable: Variable,
     /// Which item of the array it is, where it is one.

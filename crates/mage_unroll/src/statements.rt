@@ -36,7 +36,7 @@ fn party_of(party: &Token) -> u64
     }
 }
 
-// The length of an array.
+// A constant as the length of an array.
 fn length_in(value: i128) -> Option<u128>
     ensures { result ≡ length_in value }
 {
@@ -47,6 +47,7 @@ fn length_in(value: i128) -> Option<u128>
     }
 }
 
+// The items of an array, each with the variable of this index.
 fn copies(alloc: Global, count: usize, index: u32) -> Result<Items<u32>, Memory>
     ensures { IfOk result (λ items. items ≡ replicate count index) }
 {
@@ -54,7 +55,7 @@ fn copies(alloc: Global, count: usize, index: u32) -> Result<Items<u32>, Memory>
 }
 
 impl<'a> Unroller<'a> {
-    /// `const`.
+    /// The statement `const`.
     pub fn constant(
         &mut self,
         word: &Token,
@@ -69,6 +70,7 @@ impl<'a> Unroller<'a> {
         self.bind(name, Named::Constant(value))
     }
 
+    // The length of an array, and `ConstFault` at its bracket where it is below 0.
     #[tactic(auto, unfolding(crate::specs::Unroller::state_of, crate::specs::Statements::length_at))]
     fn length_at(&self, size: &(Token, ConstExpr)) -> Result<u128, LangFault>
         ensures { Gives (λ x. x) result (length_at size.now (state_of self.now)) }
@@ -128,6 +130,7 @@ impl<'a> Unroller<'a> {
         Ok(items)
     }
 
+    // The input of a scalar, or of an array of this length.
     #[tactic(auto, unfolding(crate::specs::Unroller::state_of, crate::specs::Statements::input_of))]
     fn input_of(
         &mut self,
@@ -158,7 +161,7 @@ impl<'a> Unroller<'a> {
         }
     }
 
-    /// `input`.
+    /// The statement `input`.
     pub fn input(
         &mut self,
         word: &Token,
@@ -175,7 +178,7 @@ impl<'a> Unroller<'a> {
         self.input_of(length, word, party, name, width)
     }
 
-    /// `let`.
+    /// The statement `let`.
     pub fn declare(&mut self, word: &Token, name: &'a Token, value: &Expr) -> Result<(), LangFault>
         ensures { Gives (λ _. state_of self.new) result (stmt_layer (Stmt-F.Let word.now name.now value.now) (state_of self.old)) }
     {
@@ -186,7 +189,7 @@ impl<'a> Unroller<'a> {
         self.bind_scalar(name, worker, variable)
     }
 
-    /// `array`.
+    /// The statement `array`.
     pub fn array(
         &mut self,
         word: &Token,
@@ -215,7 +218,7 @@ impl<'a> Unroller<'a> {
         self.bind_array(name, array)
     }
 
-    /// The binding of a place anew.
+    /// An assignment.
     pub fn rebind(&mut self, place: &Item, eq: &Token, value: &Expr) -> Result<(), LangFault>
         ensures { Gives (λ _. state_of self.new) result (stmt_layer (Stmt-F.Assign place.now eq.now value.now) (state_of self.old)) }
     {
@@ -254,6 +257,7 @@ impl<'a> Unroller<'a> {
         )
     }
 
+    // The name stands for what a place holds, which is sent where it is on another worker.
     #[tactic(auto, unfolding(crate::specs::Unroller::state_of, crate::specs::Statements::moved))]
     fn receive(&mut self, word: &Token, name: &'a Token, held: Held) -> Result<(), LangFault>
         ensures { Gives (λ _. state_of self.new) result (moved word.now name.now held (state_of self.old)) }
@@ -266,7 +270,7 @@ impl<'a> Unroller<'a> {
         self.bind_scalar(name, worker, variable)
     }
 
-    /// `move`.
+    /// The statement `move`.
     pub fn take(&mut self, word: &Token, name: &'a Token, place: &Item) -> Result<(), LangFault>
         ensures { Gives (λ _. state_of self.new) result (stmt_layer (Stmt-F.Move word.now name.now place.now) (state_of self.old)) }
     {
@@ -276,7 +280,7 @@ impl<'a> Unroller<'a> {
         self.receive(word, name, held)
     }
 
-    /// `output`.
+    /// The statement `output`.
     pub fn output(&mut self, word: &Token, value: &Expr) -> Result<(), LangFault>
         ensures { Gives (λ _. state_of self.new) result (stmt_layer (Stmt-F.Output word.now value.now) (state_of self.old)) }
     {

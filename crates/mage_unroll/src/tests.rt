@@ -23,27 +23,44 @@ fn unrolled(alloc: Global, text: &str) -> Result<Program, LangFault> {
     unroll(alloc, &source)
 }
 
-// A text, and the fault that its source has, with the place.
-#[derive(Clone, Copy)]
-struct Refused {
-    text: &'static str,
-    kind: LangKind,
-    line: u32,
-    column: u32,
+// The text without the mark between its two parts.
+fn joined(alloc: Global, before: &str, after: &str) -> Result<String, LangFault> {
+    format!(in alloc; "{before}{after}").map_err(|_| LangFault::Memory)
 }
 
-fn is_at<T>(answer: &Result<T, LangFault>, refused: &Refused) -> bool {
+// Whether the answer is a fault of this kind, just behind these bytes of the first line.
+fn is_behind<T>(answer: &Result<T, LangFault>, kind: LangKind, before: &str) -> bool {
     match answer {
-        Err(LangFault::At { kind, line, column }) => {
-            *kind == refused.kind && *line == refused.line && *column == refused.column
-        }
+        Err(
+            LangFault::At {
+                kind: found,
+                line,
+                column,
+            },
+        ) => *found == kind && *line == 1 && *column as usize == before.len() + 1,
         _ => false,
     }
 }
 
-fn is_refused(alloc: Global, refused: &Refused) -> bool {
-    let answer = unrolled(alloc, refused.text);
-    is_at(&answer, refused)
+// Whether a text of one line has a fault of this kind, where `@` marks its place.
+fn is_refused(alloc: Global, kind: LangKind, marked: &str) -> bool {
+    match marked.split_once('@') {
+        Some((before, after)) => match joined(alloc, before, after) {
+            Ok(text) => is_behind(&unrolled(alloc, text.as_str()), kind, before),
+            Err(_) => false,
+        },
+        None => false,
+    }
+}
+
+// The first of the texts that isn't refused so.
+fn first_other<'a>(alloc: Global, kind: LangKind, texts: &[&'a str]) -> Option<&'a str> {
+    for text in texts {
+        if !is_refused(alloc, kind, text) {
+            return Some(*text);
+        }
+    }
+    None
 }
 
 fn instr(op: Op, width: u8, args: [u32; 3], imm: u64) -> Instr {

@@ -29,6 +29,7 @@ fn workers_in(number: u128) -> Option<u8>
     if number == 1 { Some(1) } else { None }
 }
 
+// The number of workers that a source has.
 fn workers_of(count: Option<&Token>) -> Result<u8, LangFault>
     ensures { Gives (λ x. x) result (workers_of (option_copied count.entry)) }
 {
@@ -40,6 +41,7 @@ fn workers_of(count: Option<&Token>) -> Result<u8, LangFault>
     }
 }
 
+// What is kept at the start.
 #[tactic(auto, unfolding(crate::specs::Unroller::state_of))]
 fn opening<'a>(alloc: Global, workers: u8) -> Result<Unroller<'a>, Memory>
     ensures { IfOk result (λ unroller. state_of unroller ≡ opening workers) }
@@ -69,18 +71,19 @@ fn own_instrs(alloc: Global, emitted: &[Emitted], worker: u8) -> Result<Items<In
     ensures { IfOk result (λ instrs. instrs ≡ own_instrs emitted.now worker) }
 {
     let mut instrs = Items::new(alloc);
-    for e in emitted {
-        if e.worker == worker {
-            instrs.push(e.instr)?;
+    for entry in emitted {
+        if entry.worker == worker {
+            instrs.push(entry.instr)?;
         }
     }
     Ok(instrs)
 }
 
+// The worker of each instruction, in the order of emission.
 fn order_of(alloc: Global, emitted: &[Emitted]) -> Result<Items<u8>, Memory>
     ensures { IfOk result (λ order. order ≡ map (λ e. e.worker) emitted.now) }
 {
-    let order: Vec<u8> = emitted.iter().map(|e| e.worker).collect(alloc)?;
+    let order: Vec<u8> = emitted.iter().map(|entry| entry.worker).collect(alloc)?;
     Ok(Items::from_vec(order))
 }
 

@@ -1,4 +1,4 @@
-// What is kept while a source is executed once.
+// The state of an execution.
 use crate::Named;
 use crate::emission::Emission;
 use mage_scopes::Scopes;

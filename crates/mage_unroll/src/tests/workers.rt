@@ -1,7 +1,8 @@
-use super::{Refused, constant, emitted, instr, is_at, output};
+use super::{constant, emitted, instr, is_behind, joined, output};
 use crate::Emitted;
 use mage_instr::{Instr, Op};
 use mage_lex::{LangFault, LangKind};
+use std::alloc::Global;
 
 fn by(worker: u8, instr: Instr) -> Emitted {
     Emitted { worker, instr }
@@ -44,48 +45,77 @@ fn sends_what_is_moved(rt: HostRuntime) {
     assert!(rt; are(&answer, &wanted));
 }
 
-fn refused(text: &'static str, kind: LangKind, column: u32) -> Refused {
-    let line = 1;
-    Refused {
-        text,
-        kind,
-        line,
-        column,
+// An `on` block ends with the worker before it, and each worker counts its own instructions.
+#[test]
+fn returns_to_the_worker_before(rt: HostRuntime) {
+    let text = "on 1 { on 0 { output lit u1 (0); } output lit u1 (1); } output lit u1 (0);";
+    let wanted = [
+        by(0, constant(1, 0)),
+        by(0, output(1, 0)),
+        by(1, constant(1, 1)),
+        by(1, output(1, 0)),
+        by(0, constant(1, 0)),
+        by(0, output(1, 2)),
+    ];
+    let answer = emitted(rt.alloc(), text, 2);
+    assert!(rt; are(&answer, &wanted));
+}
+
+// Whether a text with two workers has a fault of this kind, where `@` marks its place.
+fn is_refused(alloc: Global, kind: LangKind, marked: &str) -> bool {
+    match marked.split_once('@') {
+        Some((before, after)) => match joined(alloc, before, after) {
+            Ok(text) => is_behind(&emitted(alloc, text.as_str(), 2), kind, before),
+            Err(_) => false,
+        },
+        None => false,
     }
 }
 
 #[test]
 fn refuses_what_stands_on_another_worker(rt: HostRuntime) {
-    let cases = [
-        refused(
-            "input garbler a: u8; on 1 { output a; }",
-            LangKind::WorkerDiffers,
-            36,
-        ),
-        refused(
-            "input garbler a: u8; on 1 { a = lit u4 (0); }",
-            LangKind::WorkerDiffers,
-            29,
-        ),
-        refused(
-            "array v: u8[2] = lit u8 (0); on 1 { output v[2]; }",
-            LangKind::IndexOut,
-            44,
-        ),
-        refused(
-            "array v: u8[2] = lit u8 (0); on 1 { output v[1]; }",
-            LangKind::WorkerDiffers,
-            44,
-        ),
-        refused(
-            "array v: u8[2] = lit u8 (0); on 1 { move w = v[2]; }",
-            LangKind::IndexOut,
-            46,
-        ),
-        refused("on 2 { }", LangKind::BadWorker, 4),
+    let texts = [
+        "input garbler a: u8; on 1 { output @a; }",
+        "input garbler a: u8; on 1 { output lit u4 (0) + @a; }",
+        "input garbler a: u8; on 1 { let b = @a; }",
+        "input garbler a: u8; on 1 { array b: u4[2] = @a; }",
+        "input garbler a: u8; on 1 { @a = y; }",
+        "input garbler a: u8; on 1 { @a = lit u4 (0); }",
+        "array v: u8[2] = lit u8 (0); on 1 { output @v[1]; }",
+        "array v: u8[2] = lit u8 (0); on 1 { @v[1] = y; }",
+        "on 1 { let a = lit u8 (0); } output @a;",
+        "on 1 { on 0 { let a = lit u8 (0); } output @a; }",
+        "let a = lit u8 (0); on 1 { move b = a; } output @b;",
     ];
-    for case in cases {
-        let answer = emitted(rt.alloc(), case.text, 2);
-        assert!(rt; is_at(&answer, &case), "{}", case.text);
+    for text in texts {
+        assert!(rt;
+            is_refused(rt.alloc(), LangKind::WorkerDiffers, text),
+            "{}",
+            text
+        );
     }
+}
+
+// An index that is out comes before the worker; the place in `move` may be on any.
+#[test]
+fn refuses_other_faults_on_another_worker(rt: HostRuntime) {
+    let alloc = rt.alloc();
+    let read = "array v: u8[2] = lit u8 (0); on 1 { output @v[2]; }";
+    let moved = "array v: u8[2] = lit u8 (0); on 1 { move w = @v[2]; }";
+    let index = "array v: u8[2] = lit u8 (0); on 1 { output v[1 @/ 0]; }";
+    assert!(rt; is_refused(alloc, LangKind::IndexOut, read));
+    assert!(rt; is_refused(alloc, LangKind::IndexOut, moved));
+    assert!(rt; is_refused(alloc, LangKind::ConstFault, index));
+    assert!(rt; is_refused(alloc, LangKind::BadWorker, "on @2 { }"));
+    assert!(rt; is_refused(alloc, LangKind::BadWorker, "on 1 { on @-1 { } }"));
+}
+
+// A Send and a Recv are two instructions of one statement.
+#[test]
+fn counts_both_instructions_of_a_move(rt: HostRuntime) {
+    let alloc = rt.alloc();
+    let fits = "let x = lit u1 (0); for i in 0..1999997 { output x; } on 1 { move y = x; }";
+    let passes = "let x = lit u1 (0); for i in 0..1999998 { output x; } on 1 { @move y = x; }";
+    assert!(rt; emitted(alloc, fits, 2).is_ok());
+    assert!(rt; is_refused(alloc, LangKind::TooLong, passes));
 }

@@ -6,8 +6,8 @@ use Rattle.mage_meaning.specs.Value.{all_changes, change_of}
 use Rattle.mage_meaning.proofs.TurnLemmas.{turns-more}
 use Rattle.mage_meaning.proofs.statements.+statements.Goals as goal
 
-pub repeat-loop-number-preserved : goal.repeat-loop-number-preserved
-repeat-loop-number-preserved t c =
+pub turns-loop-number-preserved : goal.turns-loop-number-preserved
+turns-loop-number-preserved t c =
     let number = to_z w128 c.loop-number.number-bits in
     let end = to_z w128 (of_z w128 c.args.end) in
     let next : FitsSigned w128 (number +ℤ pos 1) = search rules in

@@ -9,10 +9,10 @@ invariant-execute_all-loop-statement l =
     all_changes (map change_of (drop l.statement-index l.body)) (moment_of l.run)
     ≡ all_changes (map change_of l.body) (moment_of l.initial.run)
 
-abbrev pub invariant-repeat-loop-number : goal.invariant-repeat-loop-number
-invariant-repeat-loop-number l =
+abbrev pub invariant-turns-loop-number : goal.invariant-turns-loop-number
+invariant-turns-loop-number l =
     turns (distance l.number l.end) l.number l.name (all_changes (map change_of l.body)) (moment_of l.run)
     ≡ turns (distance l.first l.end) l.first l.name (all_changes (map change_of l.body)) (moment_of l.initial.run)
 
-abbrev pub decreases-repeat-loop-number : goal.decreases-repeat-loop-number
-decreases-repeat-loop-number l = distance l.number l.end
+abbrev pub decreases-turns-loop-number : goal.decreases-turns-loop-number
+decreases-turns-loop-number l = distance l.number l.end
