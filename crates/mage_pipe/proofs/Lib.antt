@@ -2,5 +2,5 @@ mod Few
 mod FitsTrace
 mod JobCounts
 mod Judging
-mod LeastReads
+pub mod LeastReads
 mod Walking

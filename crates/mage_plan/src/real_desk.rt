@@ -1,4 +1,5 @@
 ghost use Rattle.std.specs.Prelude.{◌≡◌, ◌≤◌, length, None, false, IfOk};
+ghost use Rattle.mage_base.specs.Faults.{Counted};
 
 use mage_base::{Desk, DeskError, Failed};
 use std::alloc::Global;
@@ -6,17 +7,36 @@ use std::fs;
 use std::io::{self, Read, Write};
 use std::rt::Files;
 
-/// A desk over files and standard output. It tells nothing of what they hold, since no contract can: what is proved
-/// of it is that it counts its faults, and that it hands out no more bytes than asked.
+/// A desk over files, standard output and standard error. It tells nothing of what they hold, since no contract can:
+/// what is proved of it is that it counts its faults, and that it hands out no more bytes than asked.
 #[derive(Drop)]
-pub struct RealDesk<'a, R: Files + Print> {
+pub struct RealDesk<'a, R: Files + Print, E: Print + Drop> {
     rt: &'a R,
+    errors: E,
     faults: u64,
 }
 
-impl<'a, R: Files + Print> RealDesk<'a, R> {
-    pub fn new(rt: &'a R) -> Self {
-        RealDesk { rt, faults: 0 }
+impl<'a, R: Files + Print, E: Print + Drop> RealDesk<'a, R, E> {
+    /// A desk that says to the runtime's standard output and warns to `errors`.
+    pub fn new(rt: &'a R, errors: E) -> Self {
+        RealDesk {
+            rt,
+            errors,
+            faults: 0,
+        }
+    }
+
+    // Counts a fault, where there was one.
+    fn counted(&mut self, written: io::Result<()>) -> Result<(), Failed>
+        ensures { Counted self.old.faults self.new.faults result }
+    {
+        match written {
+            Ok(()) => Ok(()),
+            Err(_) => {
+                self.faults = self.faults.saturating_add(1);
+                Err(Failed)
+            }
+        }
     }
 }
 
@@ -42,13 +62,13 @@ fn read_file<R: Files>(rt: &R, alloc: Global, name: &str, limit: u64) -> Result<
     Err(DeskError::Fault)
 }
 
-fn write_out<R: Print>(rt: &R, bytes: &[u8]) -> io::Result<()> {
-    let mut out = io::writer(rt);
+fn write_out<P: Print>(to: &P, bytes: &[u8]) -> io::Result<()> {
+    let mut out = io::writer(to);
     out.write_all(bytes)?;
     out.flush()
 }
 
-impl<R: Files + Print> Desk for RealDesk<'_, R> {
+impl<R: Files + Print, E: Print + Drop> Desk for RealDesk<'_, R, E> {
     ghost files = { λ _. None };
 
     ghost said = { λ _. None };
@@ -58,6 +78,10 @@ impl<R: Files + Print> Desk for RealDesk<'_, R> {
     ghost steady = { λ _. false };
 
     ghost room = { λ _. 0 };
+
+    ghost warned = { λ _. None };
+
+    ghost warn_room = { λ _. 0 };
 
     fn fetch(&mut self, alloc: Global, name: &str, limit: u64) -> Result<Vec<u8>, DeskError> {
         match read_file(self.rt, alloc, name, limit) {
@@ -70,12 +94,12 @@ impl<R: Files + Print> Desk for RealDesk<'_, R> {
     }
 
     fn say(&mut self, bytes: &[u8]) -> Result<(), Failed> {
-        match write_out(self.rt, bytes) {
-            Ok(()) => Ok(()),
-            Err(_) => {
-                self.faults = self.faults.saturating_add(1);
-                Err(Failed)
-            }
-        }
+        let written = write_out(self.rt, bytes);
+        self.counted(written)
+    }
+
+    fn warn(&mut self, bytes: &[u8]) -> Result<(), Failed> {
+        let written = write_out(&self.errors, bytes);
+        self.counted(written)
     }
 }

@@ -1,10 +1,10 @@
 -- What a command comes to, in the order of work.
 use Rattle.std.specs.Prelude.{ℕ, List, [], length, Option, Some, None, Result, Ok, Err, ok_or, nat_lt, if◌then◌else◌}
 use Rattle.mage_base.specs.Desk.{Files}
-use Rattle.mage_lex.specs.Tokens.{tokens_of}
+use Rattle.mage_instr.specs.declared.replaced.Limits.{Limits}
 use Rattle.mage_lex.specs.declared.fault.LangFault.{LangFault}
-use Rattle.mage_syntax.specs.Faults.{parsed}
-use Rattle.mage_unroll.specs.Unrolled.{unrolled_of}
+use Rattle.mage_lex.specs.declared.fault.LangFault.TheVariants as lang
+use Rattle.mage_lex.specs.declared.fault.LangKind.TheVariants as kind
 use Rattle.mage_meaning.specs.declared.party.Party.{Party}
 use Rattle.mage_meaning.specs.declared.party.Party.TheVariants as party
 use Rattle.mage_meaning.specs.Given.{Given}
@@ -12,10 +12,16 @@ use Rattle.mage_meaning.specs.Value.{value_of}
 use Rattle.mage_meaning.specs.Widths.{input_widths_of}
 use Rattle.mage_texts.specs.InputText.{inputs_of}
 use Rattle.mage_texts.specs.OutputText.{text_of}
-use Rattle.mage_planner.specs.declared.loaded.Loaded.{Loaded}
-use Rattle.mage_planner.specs.declared.status.Status.{Status}
-use Rattle.mage_planner.specs.declared.status.Status.TheVariants as status
-use Rattle.mage_words.specs.Words.{Solo, solo_of}
+use Rattle.mage_pipe.specs.declared.loaded.Loaded.{Loaded}
+use Rattle.mage_pipe.specs.declared.fault.PlanFault.{PlanFault}
+use Rattle.mage_pipe.specs.declared.fault.PlanFault.TheVariants as plan
+use Rattle.mage_pipe.specs.declared.stats.WorkerStats.{WorkerStats}
+use Rattle.mage_pipe.specs.Loading.{loaded_of}
+use Rattle.mage_pipe.specs.Summary.{stats_of}
+use Rattle.mage_planner.specs.declared.refusal.Refusal.{Refusal}
+use Rattle.mage_planner.specs.declared.refusal.Refusal.TheVariants as refusal
+use Rattle.mage_planner.specs.SummaryText.{summary_text}
+use Rattle.mage_words.specs.Words.{Request, Solo, Stats, SoloRequest, StatsRequest, request_of}
 
 -- a file as a fetch with a limit finds it
 pub data File : Type 0 where
@@ -41,72 +47,115 @@ pub record Found : Type 0 where
   pub garbler : File
   pub evaluator : File
 
--- a source has at most 1,048,576 bytes, and an input text at most 67,108,864
-abbrev pub found_in : Files → Solo → Found
-found_in files solo = record {
+-- A source has at most 1,048,576 bytes, and an input text at most 67,108,864. `stats` reads no input text.
+abbrev pub found_in : Files → Request → Found
+found_in files (Solo solo) = record {
   source = file_at files solo.source 1048576;
   garbler = file_named files solo.garbler 67108864;
   evaluator = file_named files solo.evaluator 67108864;
 }
+found_in files (Stats stats) = record { source = file_at files stats.source 1048576; garbler = Absent; evaluator = Absent }
 
 -- where the words name no file, no file is read
-abbrev pub found_for : Files → Option Solo → Found
+abbrev pub found_for : Files → Option Request → Found
 found_for files None = record { source = Absent; garbler = Absent; evaluator = Absent }
-found_for files (Some solo) = found_in files solo
+found_for files (Some request) = found_in files request
 
 infixl 10 ◌>>=◌
-abbrev pub ◌>>=◌ : {A B : Type 0} → Result A Status → (A → Result B Status) → Result B Status
+abbrev pub ◌>>=◌ : {A B : Type 0} → Result A Refusal → (A → Result B Refusal) → Result B Refusal
 (Ok x) >>= f = f x
 (Err e) >>= f = Err e
 
 -- the bytes of a file, or what its length or its absence is answered with
-abbrev pub bytes_or : Status → File → Result (List ℕ) Status
-bytes_or too_long Absent = Err status.Desk
+abbrev pub bytes_or : Refusal → File → Result (List ℕ) Refusal
+bytes_or too_long Absent = Err refusal.Desk
 bytes_or too_long Long = Err too_long
 bytes_or too_long (Held bytes) = Ok bytes
 
 -- a fault of a text is its source's
-abbrev pub or_language : {T : Type 0} → Result T LangFault → Result T Status
+abbrev pub lang_refusal : LangFault → Refusal
+lang_refusal (lang.At kind line column) = refusal.Language kind line column
+lang_refusal lang.Memory = refusal.Memory
+
+abbrev pub or_language : {T : Type 0} → Result T LangFault → Result T Refusal
 or_language (Ok x) = Ok x
-or_language (Err fault) = Err status.Language
+or_language (Err fault) = Err (lang_refusal fault)
 
--- the tree of a source without a fault, and the program that it unrolls to
-unfoldable pub loaded_of : List ℕ → Result Loaded Status
-loaded_of text = do
-  tokens ← or_language (tokens_of text)
-  tree ← or_language (parsed text tokens)
-  program ← or_language (unrolled_of tree.0 tree.1)
-  Ok (record { source = record { workers = tree.0; body = tree.1 }; program = program })
+-- a fault of a plan is its source's, or a limit that is too low
+abbrev pub plan_refusal : PlanFault → Refusal
+plan_refusal (plan.Lang fault) = lang_refusal fault
+plan_refusal (plan.Tight worker tight) = refusal.Limits worker tight
+plan_refusal plan.Memory = refusal.Memory
 
--- the same of a file
-unfoldable pub source_of : File → Result Loaded Status
+abbrev pub or_limits : {T : Type 0} → Result T PlanFault → Result T Refusal
+or_limits (Ok x) = Ok x
+or_limits (Err fault) = Err (plan_refusal fault)
+
+-- a source that is too long is refused as a whole
+abbrev pub long_source : Refusal
+long_source = refusal.Language kind.TooLong 0 0
+
+-- the tree of a source's file, and the program that it unrolls to
+unfoldable pub source_of : File → Result Loaded Refusal
 source_of file = do
-  text ← bytes_or status.Language file
-  loaded_of text
+  text ← bytes_or long_source file
+  or_language (loaded_of text)
 
-abbrev pub inputs_or_fault : Result (List (List ℕ)) ℕ → Result (List (List ℕ)) Status
-inputs_or_fault (Ok numbers) = Ok numbers
-inputs_or_fault (Err line) = Err status.InputText
+-- what a plan for the program costs
+abbrev pub costs_of : Limits → Loaded → Result (List WorkerStats) Refusal
+costs_of limits loaded = or_limits (stats_of limits loaded.program.workers)
+
+-- a program that can be planned within the limits
+unfoldable pub if_planned : Limits → Loaded → Result Loaded Refusal
+if_planned limits loaded = do
+  costs ← costs_of limits loaded
+  Ok loaded
+
+-- the same of a source's file
+unfoldable pub planned_of : Limits → File → Result Loaded Refusal
+planned_of limits file = do
+  loaded ← source_of file
+  if_planned limits loaded
+
+abbrev pub or_line : Party → Result (List (List ℕ)) ℕ → Result (List (List ℕ)) Refusal
+or_line whose (Ok numbers) = Ok numbers
+or_line whose (Err line) = Err (refusal.InputLine whose line)
 
 -- the numbers of a party's input text
-unfoldable pub numbers_of : Party → Loaded → File → Result (List (List ℕ)) Status
+unfoldable pub numbers_of : Party → Loaded → File → Result (List (List ℕ)) Refusal
 numbers_of whose loaded file = do
-  text ← bytes_or status.InputText file
-  inputs_or_fault (inputs_of text (input_widths_of whose loaded.program))
+  text ← bytes_or (refusal.InputTooLong whose) file
+  or_line whose (inputs_of text (input_widths_of whose loaded.program))
 
 -- what is said of the outputs
 abbrev pub said_of : Loaded → Given → List ℕ
 said_of loaded given = text_of (value_of loaded.source.workers loaded.source.body given)
 
--- the files of a command, where they are told
-abbrev pub found_by : Files → List (List ℕ) → Found
-found_by files words = found_for files (solo_of words)
-
--- what a command says, or the first status in the order of work that refuses it; an absent file stops it too
-unfoldable pub outcome_of : Found → List (List ℕ) → Result (List ℕ) Status
-outcome_of found words = do
-  solo ← ok_or (solo_of words) status.Words
-  loaded ← source_of found.source
+-- what `solo` says: the outputs of the source on the inputs
+unfoldable pub solo_outcome : Found → SoloRequest → Result (List ℕ) Refusal
+solo_outcome found solo = do
+  loaded ← planned_of solo.limits found.source
   garbler ← numbers_of party.Garbler loaded found.garbler
   evaluator ← numbers_of party.Evaluator loaded found.evaluator
   Ok (said_of loaded (record { garbler = garbler; evaluator = evaluator }))
+
+-- what `stats` says: the summary
+unfoldable pub stats_outcome : Found → StatsRequest → Result (List ℕ) Refusal
+stats_outcome found stats = do
+  loaded ← source_of found.source
+  costs ← costs_of stats.limits loaded
+  Ok (summary_text costs)
+
+abbrev pub outcome_for : Found → Request → Result (List ℕ) Refusal
+outcome_for found (Solo solo) = solo_outcome found solo
+outcome_for found (Stats stats) = stats_outcome found stats
+
+-- the files of a command, where they are told
+abbrev pub found_by : Files → List (List ℕ) → Found
+found_by files words = found_for files (request_of words)
+
+-- what a command says, or the first refusal in the order of work; an absent file stops it too
+unfoldable pub outcome_of : Found → List (List ℕ) → Result (List ℕ) Refusal
+outcome_of found words = do
+  request ← ok_or (request_of words) refusal.Words
+  outcome_for found request

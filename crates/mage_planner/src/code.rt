@@ -1,7 +1,8 @@
 ghost use Rattle.std.specs.Prelude.{◌≡◌};
 ghost use Rattle.mage_planner.specs.Codes.{code_of};
+ghost use Rattle.mage_planner.specs.Lines.{status_of};
 
-use crate::Status;
+use crate::{Refusal, Status};
 
 impl Status {
     /// The exit code.
@@ -9,5 +10,21 @@ impl Status {
         ensures { result ≡ code_of self }
     {
         self as u8
+    }
+}
+
+impl Refusal {
+    /// The status that it is answered with.
+    pub fn status(self) -> Status
+        ensures { result ≡ status_of self }
+    {
+        match self {
+            Refusal::Words => Status::Words,
+            Refusal::Language { .. } => Status::Language,
+            Refusal::Limits { .. } => Status::Limits,
+            Refusal::InputLine { .. } | Refusal::InputTooLong { .. } => Status::InputText,
+            Refusal::Desk => Status::Desk,
+            Refusal::Memory => Status::Memory,
+        }
     }
 }

@@ -3,12 +3,18 @@
 
 mod code;
 mod command;
-mod language;
-mod loaded;
+mod inputs;
+mod line;
+mod refusal;
 mod solo;
+mod sources;
+mod stats;
 mod status;
 mod top;
+mod warning;
 
 pub use mage_texts::{InputFault, read_inputs};
+pub use refusal::Refusal;
 pub use status::Status;
 pub use top::planner;
+pub use warning::refuse;

@@ -5,19 +5,11 @@ use std::alloc::{AllocError, Global};
 use std::process::Abort;
 use std::test::Fail;
 
-pub const WORDS: [&str; 7] = [
-    "solo",
-    "--source",
-    "s",
-    "--garbler",
-    "g",
-    "--evaluator",
-    "e",
-];
+pub const SOLO: &str = "solo --source s --garbler g --evaluator e";
 
 pub const SUM: &[u8] = b"input garbler a: u8; input evaluator b: u8; output a + b;";
 
-// A source, the garbler's and the evaluator's text, and the status and what is said.
+// A source, the garbler's and the evaluator's text; then the status, what is said and what is warned.
 #[derive(Drop)]
 pub struct Case {
     pub source: &'static [u8],
@@ -25,14 +17,16 @@ pub struct Case {
     pub evaluator: &'static [u8],
     pub status: Status,
     pub said: &'static [u8],
+    pub warned: &'static [u8],
 }
 
-pub fn owned(alloc: Global, words: &[&str]) -> Result<Vec<String>, AllocError> {
-    let mut all = Vec::new(alloc);
-    for word in words {
-        all.push(String::from_str(alloc, word)?)?;
+// The words of a line, which single spaces part.
+pub fn words_of(alloc: Global, line: &str) -> Result<Vec<String>, AllocError> {
+    let mut words = Vec::new(alloc);
+    for word in line.split(' ') {
+        words.push(String::from_str(alloc, word)?)?;
     }
-    Ok(all)
+    Ok(words)
 }
 
 pub fn desk_with(
@@ -50,8 +44,9 @@ pub fn desk_with(
     Ok(desk)
 }
 
-pub fn check(rt: &impl Abort, alloc: Global, cases: &[Case]) -> Result<(), Fail> {
-    let words = owned(alloc, &WORDS)?;
+// Runs each case with the words of this line.
+pub fn check(rt: &impl Abort, alloc: Global, line: &str, cases: &[Case]) -> Result<(), Fail> {
+    let words = words_of(alloc, line)?;
     for (index, case) in cases.iter().enumerate() {
         let fails = DeskFails::none(alloc);
         let mut desk = desk_with(
@@ -63,8 +58,9 @@ pub fn check(rt: &impl Abort, alloc: Global, cases: &[Case]) -> Result<(), Fail>
             case.evaluator,
         )?;
         let status = planner(alloc, &words, &mut desk);
-        assert_eq!(rt; status, case.status, "case {index}");
-        assert_eq!(rt; desk.said(), case.said, "case {index}");
+        assert_eq!(rt; status, case.status, "{line}: case {index}");
+        assert_eq!(rt; desk.said(), case.said, "{line}: case {index}");
+        assert_eq!(rt; desk.warned(), case.warned, "{line}: case {index}");
     }
     Ok(())
 }
@@ -81,6 +77,7 @@ pub fn said(
         evaluator,
         status: Status::Ok,
         said,
+        warned: b"",
     }
 }
 
@@ -89,6 +86,7 @@ pub fn refused(
     garbler: &'static [u8],
     evaluator: &'static [u8],
     status: Status,
+    warned: &'static [u8],
 ) -> Case {
     Case {
         source,
@@ -96,5 +94,6 @@ pub fn refused(
         evaluator,
         status,
         said: b"",
+        warned,
     }
 }

@@ -1,10 +1,16 @@
-//! Tests that cross crates: what the top calls answer and say over a desk in memory. Each expected value is a worked
+//! Tests that cross crates: what the top calls answer, say and warn over a desk in memory. Each expected value is a worked
 //! example or follows from the rules in docs/, and none comes from the program.
 #![tactic(auto)]
 
 #[cfg(test)]
 mod cases;
 #[cfg(test)]
+mod desk;
+#[cfg(test)]
 mod language;
 #[cfg(test)]
 mod solo;
+#[cfg(test)]
+mod stats;
+#[cfg(test)]
+mod words;

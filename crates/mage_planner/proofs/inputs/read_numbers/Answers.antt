@@ -1,5 +1,5 @@
 use Rattle.mage_planner.specs.Outcome.{Held, numbers_of}
-use Rattle.mage_planner.proofs.solo.read_numbers.Goals as goal
+use Rattle.mage_planner.proofs.inputs.read_numbers.Goals as goal
 
 pub returns-clause-some : goal.returns-clause-some
 unfolding numbers_of

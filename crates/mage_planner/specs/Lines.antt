@@ -1,0 +1,65 @@
+-- What is warned of a refusal: one line.
+use Rattle.std.specs.Prelude.{ℕ, List, [], ◌∷◌, codes}
+use Rattle.std.specs.List.{concat}
+use Rattle.std.specs.Fmt.{decimal}
+use Rattle.mage_instr.specs.declared.replaced.Tight.{Tight}
+use Rattle.mage_instr.specs.declared.replaced.Tight.TheVariants as tight
+use Rattle.mage_lex.specs.declared.fault.LangKind.{LangKind}
+use Rattle.mage_lex.specs.declared.fault.LangKind.TheVariants as kind
+use Rattle.mage_meaning.specs.declared.party.Party.{Party}
+use Rattle.mage_meaning.specs.declared.party.Party.TheVariants as party
+use Rattle.mage_planner.specs.declared.refusal.Refusal.{Refusal}
+use Rattle.mage_planner.specs.declared.refusal.Refusal.TheVariants as refusal
+use Rattle.mage_planner.specs.declared.status.Status.{Status}
+use Rattle.mage_planner.specs.declared.status.Status.TheVariants as status
+
+-- the status of a refusal
+abbrev pub status_of : Refusal → Status
+status_of refusal.Words = status.Words
+status_of (refusal.Language kind line column) = status.Language
+status_of (refusal.Limits worker tight) = status.Limits
+status_of (refusal.InputLine party line) = status.InputText
+status_of (refusal.InputTooLong party) = status.InputText
+status_of refusal.Desk = status.Desk
+status_of refusal.Memory = status.Memory
+
+-- the name of what can be wrong with a source
+abbrev pub kind_name : LangKind → List ℕ
+kind_name kind.BadByte = codes "BadByte"
+kind_name kind.BadNumber = codes "BadNumber"
+kind_name kind.TooLong = codes "TooLong"
+kind_name kind.Syntax = codes "Syntax"
+kind_name kind.TooDeep = codes "TooDeep"
+kind_name kind.UnknownName = codes "UnknownName"
+kind_name kind.Duplicate = codes "Duplicate"
+kind_name kind.WidthDiffers = codes "WidthDiffers"
+kind_name kind.WorkerDiffers = codes "WorkerDiffers"
+kind_name kind.IndexOut = codes "IndexOut"
+kind_name kind.ConstFault = codes "ConstFault"
+kind_name kind.BadWidth = codes "BadWidth"
+kind_name kind.BadWorker = codes "BadWorker"
+
+abbrev pub party_name : Party → List ℕ
+party_name party.Garbler = codes "garbler"
+party_name party.Evaluator = codes "evaluator"
+
+-- what an instruction needs and doesn't have, to the end of the line
+abbrev pub tight_parts : Tight → List (List ℕ)
+tight_parts (tight.Frames instr needs has) =
+    decimal instr ∷ codes " needs " ∷ decimal needs ∷ codes " pages, has " ∷ decimal has ∷ codes " frames\n" ∷ []
+tight_parts (tight.Buffer instr) = decimal instr ∷ codes " needs a buffer slot\n" ∷ []
+
+-- the parts of a refusal's line
+abbrev pub line_parts : Refusal → List (List ℕ)
+line_parts refusal.Words = codes "mage: bad words\n" ∷ []
+line_parts (refusal.Language kind line column) =
+    codes "mage: source " ∷ decimal line ∷ codes ":" ∷ decimal column ∷ codes ": " ∷ kind_name kind ∷ codes "\n" ∷ []
+line_parts (refusal.Limits worker tight) = codes "mage: limits: worker " ∷ decimal worker ∷ codes " instruction " ∷ tight_parts tight
+line_parts (refusal.InputLine party line) = codes "mage: input " ∷ party_name party ∷ codes " line " ∷ decimal line ∷ codes "\n" ∷ []
+line_parts (refusal.InputTooLong party) = codes "mage: input " ∷ party_name party ∷ codes " too long\n" ∷ []
+line_parts refusal.Desk = codes "mage: desk fault\n" ∷ []
+line_parts refusal.Memory = codes "mage: no memory\n" ∷ []
+
+-- the line of a refusal
+abbrev pub line_of : Refusal → List ℕ
+line_of refusal = concat (line_parts refusal)

@@ -1,0 +1,104 @@
+// The input texts of a command.
+ghost use Rattle.std.specs.Prelude.{◌≡◌, ℕ, option_map, All, IsTrue, IfSome, IfErr};
+ghost use Rattle.mage_instr.specs.Sound.{IsSound};
+ghost use Rattle.mage_meaning.specs.Widths.{input_widths_of};
+ghost use Rattle.mage_texts.specs.Lists.{lists_of};
+ghost use Rattle.mage_texts.specs.InputText.{inputs_of};
+ghost use Rattle.mage_planner.specs.declared.refusal.Refusal.TheVariants as refusals;
+ghost use Rattle.mage_planner.specs.Outcome.{File, file_named, bytes_or, or_line, numbers_of};
+ghost use Rattle.mage_planner.specs.Answer.{Gives, IsFetchRefusal, StepCounted, IsNoDeskFault, IsNoWordsFault, HasNamed};
+
+use crate::Refusal;
+use mage_base::{Desk, DeskError};
+use mage_instr::Program;
+use mage_meaning::{Party, input_widths};
+use mage_pipe::Loaded;
+use mage_texts::{InputFault, read_inputs};
+use std::alloc::Global;
+
+// The most bytes that an input text may have.
+const MOST_INPUT_BYTES: u64 = 67_108_864;
+
+// The bytes of a party's input text: of the file, where one is named.
+fn fetch_input<D: Desk>(
+    alloc: Global,
+    desk: &mut D,
+    name: Option<&str>,
+    party: Party,
+) -> Result<Vec<u8>, Refusal>
+    ensures told { IfSome (D.files desk.old) (λ files.
+        Gives (λ bytes. bytes.items) result (bytes_or (refusals.InputTooLong party) (file_named files (option_map (λ n. n.now) name.entry) 67108864))) }
+    ensures refusal { IfErr result (IsFetchRefusal (refusals.InputTooLong party)) }
+    ensures no_words { IsNoWordsFault result }
+    ensures cause { StepCounted (D.faults desk.old) (D.faults desk.new) result }
+    ensures steady_finds { IsTrue (D.steady desk.old)
+        → IfSome (D.files desk.old) (λ files. HasNamed files (option_map (λ n. n.now) name.entry) → IsNoDeskFault result) }
+
+    ensures files { D.files desk.new ≡ D.files desk.old }
+    ensures said { D.said desk.new ≡ D.said desk.old }
+    ensures warned { D.warned desk.new ≡ D.warned desk.old }
+    ensures steady { D.steady desk.new ≡ D.steady desk.old }
+    ensures room { D.room desk.new ≡ D.room desk.old }
+    ensures warn_room { D.warn_room desk.new ≡ D.warn_room desk.old }
+{
+    let Some(name) = name else {
+        return Ok(Vec::new(alloc));
+    };
+    match desk.fetch(alloc, name, MOST_INPUT_BYTES) {
+        Ok(bytes) => Ok(bytes),
+        Err(DeskError::Fault) => Err(Refusal::Desk),
+        Err(DeskError::TooLong) => Err(Refusal::InputTooLong { party }),
+        Err(DeskError::Memory) => Err(Refusal::Memory),
+    }
+}
+
+// The numbers of a party's input text.
+fn numbers(
+    alloc: Global,
+    text: &[u8],
+    program: &Program,
+    party: Party,
+) -> Result<Vec<Vec<u64>>, Refusal>
+    requires { All IsSound program.now.workers }
+    ensures quiet { (faults : ℕ) → StepCounted faults faults result }
+    ensures no_fault { IsNoDeskFault result }
+    ensures no_words { IsNoWordsFault result }
+    ensures numbers { Gives (λ numbers. lists_of numbers.items) result
+        (or_line party (inputs_of text.now (input_widths_of party program.now))) }
+{
+    let widths = input_widths(alloc, program, party).map_err(|_| Refusal::Memory)?;
+    match read_inputs(alloc, text, widths.as_slice()) {
+        Ok(numbers) => Ok(numbers),
+        Err(InputFault::Line { line }) => Err(Refusal::InputLine { party, line }),
+        Err(InputFault::Memory) => Err(Refusal::Memory),
+    }
+}
+
+/// The numbers of a party's input text, which is that of the file where one is named, and else empty.
+#[tactic(auto, unfolding(crate::specs::Outcome::numbers_of))]
+pub fn read_numbers<D: Desk>(
+    alloc: Global,
+    desk: &mut D,
+    name: Option<&str>,
+    loaded: &Loaded,
+    party: Party,
+) -> Result<Vec<Vec<u64>>, Refusal>
+    requires { All IsSound loaded.now.program.workers }
+    ensures told { IfSome (D.files desk.old) (λ files.
+        Gives (λ numbers. lists_of numbers.items) result (numbers_of party loaded.now (file_named files (option_map (λ n. n.now) name.entry) 67108864))) }
+    ensures some { (file : File) × Gives (λ numbers. lists_of numbers.items) result (numbers_of party loaded.now file) }
+    ensures no_words { IsNoWordsFault result }
+    ensures cause { StepCounted (D.faults desk.old) (D.faults desk.new) result }
+    ensures steady_finds { IsTrue (D.steady desk.old)
+        → IfSome (D.files desk.old) (λ files. HasNamed files (option_map (λ n. n.now) name.entry) → IsNoDeskFault result) }
+
+    ensures files { D.files desk.new ≡ D.files desk.old }
+    ensures said { D.said desk.new ≡ D.said desk.old }
+    ensures warned { D.warned desk.new ≡ D.warned desk.old }
+    ensures steady { D.steady desk.new ≡ D.steady desk.old }
+    ensures room { D.room desk.new ≡ D.room desk.old }
+    ensures warn_room { D.warn_room desk.new ≡ D.warn_room desk.old }
+{
+    let text = fetch_input(alloc, desk, name, party)?;
+    numbers(alloc, &text, &loaded.program, party)
+}

@@ -1,0 +1,172 @@
+// The source of a command: fetched, read and planned.
+ghost use Rattle.std.specs.Prelude.{◌≡◌, ◌≤◌, ℕ, length, All, IsTrue, IsSome, IfSome, IfOk, IfErr};
+ghost use Rattle.mage_instr.specs.Limits.{AreInRange};
+ghost use Rattle.mage_instr.specs.Sound.{IsSound};
+ghost use Rattle.mage_pipe.specs.Loading.{loaded_of};
+ghost use Rattle.mage_planner.specs.Outcome.{File, file_at, bytes_or, or_language, lang_refusal, plan_refusal, long_source, source_of, costs_of, if_planned, planned_of};
+ghost use Rattle.mage_planner.specs.Answer.{Gives, IsFetchRefusal, StepCounted, IsNoDeskFault, IsNoWordsFault};
+
+use crate::Refusal;
+use mage_base::{Desk, DeskError};
+use mage_instr::Limits;
+use mage_lex::{LangFault, LangKind};
+use mage_pipe::{Loaded, PlanFault, WorkerStats, load, program_stats};
+use std::alloc::Global;
+
+// The most bytes that a source may have.
+const MOST_SOURCE_BYTES: u64 = 1_048_576;
+
+// A source that is too long is refused as a whole.
+fn long_source() -> Refusal
+    ensures { result ≡ long_source }
+{
+    Refusal::Language {
+        kind: LangKind::TooLong,
+        line: 0,
+        column: 0,
+    }
+}
+
+fn of_language(fault: LangFault) -> Refusal
+    ensures { result ≡ lang_refusal fault }
+{
+    match fault {
+        LangFault::At { kind, line, column } => Refusal::Language { kind, line, column },
+        LangFault::Memory => Refusal::Memory,
+    }
+}
+
+fn of_plan(fault: PlanFault) -> Refusal
+    ensures { result ≡ plan_refusal fault }
+{
+    match fault {
+        PlanFault::Lang(fault) => of_language(fault),
+        PlanFault::Tight { worker, tight } => Refusal::Limits { worker, tight },
+        PlanFault::Memory => Refusal::Memory,
+    }
+}
+
+// The bytes of a source's file.
+fn fetch_source<D: Desk>(alloc: Global, desk: &mut D, name: &str) -> Result<Vec<u8>, Refusal>
+    ensures told { IfSome (D.files desk.old) (λ files.
+        Gives (λ bytes. bytes.items) result (bytes_or long_source (file_at files name.now 1048576))) }
+    ensures refusal { IfErr result (IsFetchRefusal long_source) }
+    ensures no_words { IsNoWordsFault result }
+    ensures cause { StepCounted (D.faults desk.old) (D.faults desk.new) result }
+    ensures steady_finds { IsTrue (D.steady desk.old)
+        → IfSome (D.files desk.old) (λ files. IsSome (files name.now) → IsNoDeskFault result) }
+
+    ensures files { D.files desk.new ≡ D.files desk.old }
+    ensures said { D.said desk.new ≡ D.said desk.old }
+    ensures warned { D.warned desk.new ≡ D.warned desk.old }
+    ensures steady { D.steady desk.new ≡ D.steady desk.old }
+    ensures room { D.room desk.new ≡ D.room desk.old }
+    ensures warn_room { D.warn_room desk.new ≡ D.warn_room desk.old }
+{
+    match desk.fetch(alloc, name, MOST_SOURCE_BYTES) {
+        Ok(bytes) => Ok(bytes),
+        Err(DeskError::Fault) => Err(Refusal::Desk),
+        Err(DeskError::TooLong) => Err(long_source()),
+        Err(DeskError::Memory) => Err(Refusal::Memory),
+    }
+}
+
+// The tree of a text, and the program that it unrolls to.
+fn loaded(alloc: Global, text: &[u8]) -> Result<Loaded, Refusal>
+    ensures loaded { Gives (λ loaded. loaded) result (or_language (loaded_of text.now)) }
+    ensures sound { IfOk result (λ loaded. All IsSound loaded.program.workers) }
+    ensures few { IfOk result (λ loaded. length loaded.program.workers ≤ 16) }
+    ensures quiet { (faults : ℕ) → StepCounted faults faults result }
+    ensures no_fault { IsNoDeskFault result }
+    ensures no_words { IsNoWordsFault result }
+{
+    match load(alloc, text) {
+        Ok(loaded) => Ok(loaded),
+        Err(fault) => Err(of_language(fault)),
+    }
+}
+
+/// What a plan for the program costs, worker by worker.
+pub fn costs(alloc: Global, loaded: &Loaded, limits: Limits) -> Result<Vec<WorkerStats>, Refusal>
+    requires sound { All IsSound loaded.now.program.workers }
+    requires few { length loaded.now.program.workers ≤ 16 }
+    requires limits { AreInRange limits }
+    ensures costs { Gives (λ costs. costs.items) result (costs_of limits loaded.now) }
+    ensures quiet { (faults : ℕ) → StepCounted faults faults result }
+    ensures no_fault { IsNoDeskFault result }
+    ensures no_words { IsNoWordsFault result }
+{
+    match program_stats(alloc, &loaded.program, limits) {
+        Ok(stats) => Ok(stats),
+        Err(fault) => Err(of_plan(fault)),
+    }
+}
+
+// A program that can be planned within the limits.
+#[tactic(auto, unfolding(crate::specs::Outcome::if_planned))]
+fn planned(alloc: Global, loaded: Loaded, limits: Limits) -> Result<Loaded, Refusal>
+    requires sound { All IsSound loaded.program.workers }
+    requires few { length loaded.program.workers ≤ 16 }
+    requires limits { AreInRange limits }
+    ensures planned { Gives (λ loaded. loaded) result (if_planned limits loaded) }
+    ensures sound { IfOk result (λ loaded. All IsSound loaded.program.workers) }
+    ensures quiet { (faults : ℕ) → StepCounted faults faults result }
+    ensures no_fault { IsNoDeskFault result }
+    ensures no_words { IsNoWordsFault result }
+{
+    costs(alloc, &loaded, limits)?;
+    Ok(loaded)
+}
+
+/// The tree of the source that a file has, and the program that it unrolls to.
+#[tactic(auto, unfolding(crate::specs::Outcome::source_of))]
+pub fn read_source<D: Desk>(alloc: Global, desk: &mut D, name: &str) -> Result<Loaded, Refusal>
+    ensures told { IfSome (D.files desk.old) (λ files.
+        Gives (λ loaded. loaded) result (source_of (file_at files name.now 1048576))) }
+    ensures some { (file : File) × Gives (λ loaded. loaded) result (source_of file) }
+    ensures sound { IfOk result (λ loaded. All IsSound loaded.program.workers) }
+    ensures few { IfOk result (λ loaded. length loaded.program.workers ≤ 16) }
+    ensures no_words { IsNoWordsFault result }
+    ensures cause { StepCounted (D.faults desk.old) (D.faults desk.new) result }
+    ensures steady_finds { IsTrue (D.steady desk.old)
+        → IfSome (D.files desk.old) (λ files. IsSome (files name.now) → IsNoDeskFault result) }
+
+    ensures files { D.files desk.new ≡ D.files desk.old }
+    ensures said { D.said desk.new ≡ D.said desk.old }
+    ensures warned { D.warned desk.new ≡ D.warned desk.old }
+    ensures steady { D.steady desk.new ≡ D.steady desk.old }
+    ensures room { D.room desk.new ≡ D.room desk.old }
+    ensures warn_room { D.warn_room desk.new ≡ D.warn_room desk.old }
+{
+    let text = fetch_source(alloc, desk, name)?;
+    loaded(alloc, &text)
+}
+
+/// The same of a source that can be planned within the limits.
+#[tactic(auto, unfolding(crate::specs::Outcome::planned_of))]
+pub fn read_planned<D: Desk>(
+    alloc: Global,
+    desk: &mut D,
+    name: &str,
+    limits: Limits,
+) -> Result<Loaded, Refusal>
+    requires limits { AreInRange limits }
+    ensures told { IfSome (D.files desk.old) (λ files.
+        Gives (λ loaded. loaded) result (planned_of limits (file_at files name.now 1048576))) }
+    ensures some { (file : File) × Gives (λ loaded. loaded) result (planned_of limits file) }
+    ensures sound { IfOk result (λ loaded. All IsSound loaded.program.workers) }
+    ensures no_words { IsNoWordsFault result }
+    ensures cause { StepCounted (D.faults desk.old) (D.faults desk.new) result }
+    ensures steady_finds { IsTrue (D.steady desk.old)
+        → IfSome (D.files desk.old) (λ files. IsSome (files name.now) → IsNoDeskFault result) }
+
+    ensures files { D.files desk.new ≡ D.files desk.old }
+    ensures said { D.said desk.new ≡ D.said desk.old }
+    ensures warned { D.warned desk.new ≡ D.warned desk.old }
+    ensures steady { D.steady desk.new ≡ D.steady desk.old }
+    ensures room { D.room desk.new ≡ D.room desk.old }
+    ensures warn_room { D.warn_room desk.new ≡ D.warn_room desk.old }
+{
+    let loaded = read_source(alloc, desk, name)?;
+    planned(alloc, loaded, limits)
+}
