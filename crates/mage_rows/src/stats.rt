@@ -15,6 +15,11 @@ const CLASSES: &[u8] = b"input garbler a: u8; input garbler b: u64; let c = a + 
 const CHOICE: &[u8] = b"input garbler c: u1; input garbler a: u64; input garbler b: u64; \
                         output mux(c, a, b);";
 
+// Squares that are added, and results of one bit on pages of their own.
+const SQUARES: &[u8] = b"input garbler a: u8[4]; let s = lit u8 (0); \
+                         for i in 0..4 { s = s + a[i] * a[i]; } \
+                         output s; output s < a[3]; output (s >> 2) ^ resize u8 (s == s);";
+
 #[test]
 fn what_a_plan_costs(rt: HostRuntime) -> Result<(), Fail> {
     let alloc = rt.alloc();
@@ -25,6 +30,9 @@ fn what_a_plan_costs(rt: HostRuntime) -> Result<(), Fail> {
     let choice = b"worker 0 instructions 5 pages 4 needs 4 reads 0 writes 0\n";
     let one = "stats --source s --page 64 --frames 1 --buffer 0";
     check(&rt, alloc, one, &[said(b"", b"", b"", empty)])?;
+    let squares = b"worker 0 instructions 21 pages 3 needs 2 reads 0 writes 0\n";
+    let source = "stats --source s";
+    check(&rt, alloc, source, &[said(SQUARES, b"", b"", squares)])?;
     let two = "stats --source s --page 64 --frames 2 --buffer 1";
     check(&rt, alloc, two, &[said(THREE, b"", b"", three)])?;
     let more = "stats --source s --page 64 --frames 3 --buffer 0";
