@@ -1,5 +1,5 @@
 // The table of commands.
-ghost use Rattle.std.specs.Prelude.{◌≡◌};
+ghost use Rattle.std.specs.Prelude.{◌≡◌, Some};
 ghost use Rattle.mage_words.specs.Commands.{command_named, command_rule, command_view};
 
 use crate::option::OptionName;
@@ -39,9 +39,10 @@ const STATS: [OptionName; 5] = [
     OptionName::Ahead,
 ];
 
-/// The row of a command.
+/// The row of a command. Its word names it, and no other command.
 pub fn command_rule(command: CommandName) -> CommandRule
-    ensures { command_view result ≡ command_rule command }
+    ensures row { command_view result ≡ command_rule command }
+    ensures named { command_named (command_rule command).name ≡ Some command }
 {
     match command {
         CommandName::Solo => CommandRule {

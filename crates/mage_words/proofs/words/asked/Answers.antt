@@ -16,7 +16,7 @@ returns-in_err-matches c =
     let words = bytes_of_words c.args.words.now in
     let name = c.in-Some.command in
     let rule = c.command_rule-rule.result in
-    let own = ap (λ row. map rule_of row.options) c.command_rule-rule.ensures in
+    let own = ap (λ row. map rule_of row.options) c.command_rule-rule.ensures.row in
     let asked = pairs_asked words name (sym c.in-Some.ensures) in
     rw (p.1, p.2) (refused_is request_view c.in_err-matches.field-0.0 (request_of words)
     (λ is. asked.3 ∙ none_asked name (map rule_of rule.options.now) own asked.0 (c.in_err-matches.ensures.refused asked.0 asked.2 is)))
@@ -26,7 +26,7 @@ returns c =
     let words = bytes_of_words c.args.words.now in
     let name = c.in-Some.command in
     let rule = c.command_rule-rule.result in
-    let own = ap (λ row. map rule_of row.options) c.command_rule-rule.ensures in
+    let own = ap (λ row. map rule_of row.options) c.command_rule-rule.ensures.row in
     let asked = pairs_asked words name (sym c.in-Some.ensures) in
     let clauses = c.in_ok-matches.ensures in
     let all = all_asked name (map rule_of rule.options.now) own asked.0 (found_of c.in_ok-matches.matches) (clauses.taken asked.0 asked.2) (clauses.values asked.0 asked.2) in
