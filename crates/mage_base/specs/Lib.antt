@@ -1,4 +1,5 @@
 pub mod Faults
+pub mod Source
+pub mod Sink
+pub mod Store
 pub mod Desk
-pub mod DeskFails
-pub mod MemDesk

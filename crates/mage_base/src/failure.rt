@@ -39,3 +39,11 @@ pub enum DeskError {
     #[error("no memory")]
     Memory,
 }
+
+/// A page that came back other than it was written: the SHA-256 digests of what was written and of what came back.
+#[derive(Clone, Copy, Debug, PartialEq, Eq)]
+pub struct Damage {
+    pub page: u32,
+    pub kept: [u8; 32],
+    pub found: [u8; 32],
+}

@@ -1,14 +1,16 @@
-//! The outside as the project sees it: the desk that hands in files and takes what is said, and a desk in
-//! memory for tests. Each object counts its faults, so that a fault is answered only where the outside failed.
+//! The outside as the project sees it: sources, sinks, stores of pages and the desk that hands them out, as traits
+//! with counts of faults, and all of them in memory for tests. A fault is answered only where the outside failed.
 #![tactic(auto)]
 
 mod desk;
-mod desk_fails;
 mod failure;
-mod mem_desk;
+mod sink;
+mod source;
+mod store;
 
 pub use desk::Desk;
-pub use desk_fails::DeskFails;
-pub use failure::{DeskError, Failed, Memory};
-pub use mem_desk::MemDesk;
+pub use failure::{Damage, DeskError, Failed, Memory};
+pub use sink::Sink;
+pub use source::Source;
 pub use sqlite_items::Items;
+pub use store::Store;

@@ -1,5 +1,5 @@
 -- Arithmetic modulo a power of two, on numbers below 2 to the width. Each operation takes the width first.
-use Rattle.std.specs.Prelude.{ℕ, ◌+◌, ◌-◌, ◌*◌, ◌/◌, ◌%◌, ◌^◌, ◌==◌, nat_lt, Bool, if◌then◌else◌, bit_and, bit_or, bit_xor}
+use Rattle.std.specs.Prelude.{ℕ, ◌+◌, ◌-◌, ◌*◌, ◌/◌, ◌%◌, ◌^◌, ◌==◌, nat_lt, min, max, Bool, if◌then◌else◌, bit_and, bit_or, bit_xor, count_ones}
 
 -- 1 where a test holds, and else 0
 abbrev pub bit_of : Bool → ℕ
@@ -44,3 +44,21 @@ shr_mod width a amount = a / 2 ^ amount
 -- a number of any width at this width
 abbrev pub resize_mod : ℕ → ℕ → ℕ
 resize_mod width a = a % 2 ^ width
+
+-- the whole quotient, and each bit 1 where the divisor is 0
+abbrev pub div_mod : ℕ → ℕ → ℕ → ℕ
+div_mod width a b = if b == 0 then 2 ^ width - 1 else a / b
+
+-- what division leaves, and the dividend where the divisor is 0
+abbrev pub rem_mod : ℕ → ℕ → ℕ → ℕ
+rem_mod width a b = if b == 0 then a else a % b
+
+-- how many of the bits are 1
+abbrev pub count_mod : ℕ → ℕ → ℕ
+count_mod width a = count_ones a
+
+abbrev pub min_mod : ℕ → ℕ → ℕ → ℕ
+min_mod width a b = min a b
+
+abbrev pub max_mod : ℕ → ℕ → ℕ → ℕ
+max_mod width a b = max a b

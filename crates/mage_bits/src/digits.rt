@@ -6,7 +6,7 @@ use mage_base::Memory;
 use std::alloc::Global;
 
 /// The `count` lowest binary digits of a number, lowest first. Those above the highest are 0.
-pub fn bits_of(alloc: Global, value: u64, count: u8) -> Result<Vec<bool>, Memory>
+pub fn bits_of(alloc: Global, value: u128, count: u8) -> Result<Vec<bool>, Memory>
     ensures { IfOk result (λ digits. digits.items ≡ bits value count) }
 {
     let mut digits = Vec::with_capacity(alloc, usize::from(count))?;
@@ -18,9 +18,9 @@ pub fn bits_of(alloc: Global, value: u64, count: u8) -> Result<Vec<bool>, Memory
     Ok(digits)
 }
 
-/// The number that binary digits write, lowest first.
-pub fn number_of(bits: &[bool]) -> u64
-    requires { length bits.now ≤ 64 }
+/// The number that at most 128 binary digits write, lowest first.
+pub fn number_of(bits: &[bool]) -> u128
+    requires { length bits.now ≤ 128 }
     ensures { result ≡ number bits.now }
 {
     let mut sum = 0;

@@ -2,7 +2,7 @@
 ghost use Rattle.std.specs.Prelude.{◌≡◌, ◌<◌, ◌%◌, ◌^◌, ◌==◌, ℕ, Bool, List, Some, length, slice_get};
 ghost use Rattle.std.specs.Int.{bit_at};
 ghost use Rattle.mage_bits.specs.Bits.{bits, number};
-ghost use Rattle.mage_bits.specs.Modular.{add_mod, sub_mod, mul_mod, and_mod, or_mod, xor_mod, not_mod, eq_mod, lt_mod, shl_mod, shr_mod, resize_mod};
+ghost use Rattle.mage_bits.specs.Modular.{add_mod, sub_mod, mul_mod, and_mod, or_mod, xor_mod, not_mod, eq_mod, lt_mod, shl_mod, shr_mod, resize_mod, div_mod, rem_mod, count_mod, min_mod, max_mod};
 
 /// What holds of all digits and numbers: the number of the n lowest digits of v is v modulo 2 to the n; the i-th
 /// of them is the i-th binary digit of v; and digits write a number below 2 to their count, whose digits they are.
@@ -24,6 +24,10 @@ pub fn laws_of_modular_arithmetic()
     ensures tests { (width a b : ℕ) → (eq_mod width a b < 2) × (lt_mod width a b < 2) }
     ensures shifts { (width a amount : ℕ) → a < 2 ^ width
         → (shl_mod width a amount < 2 ^ width) × (shr_mod width a amount < 2 ^ width) }
+    ensures division { (width a b : ℕ) → a < 2 ^ width
+        → (div_mod width a b < 2 ^ width) × (rem_mod width a b < 2 ^ width) }
+    ensures counts { (width a b : ℕ) → a < 2 ^ width → b < 2 ^ width → (count_mod width a < 2 ^ width)
+        × (min_mod width a b < 2 ^ width) × (max_mod width a b < 2 ^ width) }
     ensures resized { (width a : ℕ) → resize_mod width a < 2 ^ width }
     ensures difference { (width a b : ℕ) → a < 2 ^ width → b < 2 ^ width
         → add_mod width (sub_mod width a b) b ≡ a }

@@ -1,3 +1,4 @@
+// Programs of instructions.
 use crate::Op;
 use sqlite_items::Items;
 
@@ -8,7 +9,7 @@ pub const NEVER: u32 = u32::MAX;
 #[derive(Clone, Copy, Debug, PartialEq, Eq)]
 pub struct Instr {
     pub op: Op,
-    /// The width in bits, 1 to 64.
+    /// The width in bits, 1 to 128.
     pub width: u8,
     /// The arguments, each as the index of the instruction of the same worker that defined it. Those past the
     /// arity are 0.

@@ -1,3 +1,5 @@
+// The opcodes.
+
 /// What an instruction does. The opcodes are numbered from 0 in this order.
 #[derive(Clone, Copy, Debug, PartialEq, Eq)]
 pub enum Op {
@@ -30,4 +32,14 @@ pub enum Op {
     Send,
     /// Takes a value from another worker.
     Recv,
+    /// The whole quotient; each bit is 1 where the divisor is 0.
+    Div,
+    /// What division leaves; the dividend where the divisor is 0.
+    Rem,
+    /// How many bits are 1.
+    Count,
+    /// The lesser of two values.
+    Min,
+    /// The greater of two values.
+    Max,
 }

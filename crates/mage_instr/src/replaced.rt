@@ -1,3 +1,4 @@
+// What a plan of residency is made of.
 use crate::Op;
 
 /// Where a value stands in memory: its frame, and its first wire in the frame.
@@ -50,4 +51,6 @@ pub enum Tight {
     Frames { instr: u32, needs: u8, has: u32 },
     /// The instruction needs a slot of the buffer, and there is none.
     Buffer { instr: u32 },
+    /// The instruction's result has a size class of more wires than a page.
+    Page { instr: u32, class: u8 },
 }
