@@ -16,7 +16,7 @@ use Rattle.mage_place.specs.Pools.{is_taken, class_at, is_open_page, is_open, Ta
 use Rattle.mage_place.proofs.Changed.{Changed, class_at-changed, class_at-other, is_taken-changed, is_taken-other}
 
 -- a page that was just made, with its place 0 taken
-pub IsPage-fresh : (wires class : ℕ) (s : BTreeSet ℕ) → 1 ≤ class → class ≤ 64 → 64 ≤ wires → IsEmpty s → IsOrdered nat_cmp s → IsPage wires (record { class = class; next = 1; freed = s })
+pub IsPage-fresh : (wires class : ℕ) (s : BTreeSet ℕ) → 1 ≤ class → class ≤ 128 → class ≤ wires → IsEmpty s → IsOrdered nat_cmp s → IsPage wires (record { class = class; next = 1; freed = s })
 IsPage-fresh wires class s above below wide empty ordered = record {
   ordered = ordered;
   class_above = above;

@@ -34,11 +34,12 @@ between w r k m is ok above below =
     let low : m ≤ r = rw (is, ok.power.1) (double_below ok.power.0 k less) in
     omega arith
 
-pub class_of_width-from_least : (w r : ℕ) → 1 ≤ w → w ≤ 64 → IsLeastPower w r → r ≡ class_of_width w
+pub class_of_width-from_least : (w r : ℕ) → 1 ≤ w → w ≤ 128 → IsLeastPower w r → r ≡ class_of_width w
 class_of_width-from_least w r above below ok =
     step w 1 1 _ r (λ h. omega (arith, ok.wide, ok.least 0 h)) (λ a.
     step w 2 2 _ r (between w r 0 2 refl ok a) (λ b.
     step w 4 4 _ r (between w r 1 4 refl ok b) (λ c.
     step w 8 8 _ r (between w r 2 8 refl ok c) (λ d.
     step w 16 16 _ r (between w r 3 16 refl ok d) (λ e.
-    step w 32 32 64 r (between w r 4 32 refl ok e) (λ f. between w r 5 64 refl ok f below))))))
+    step w 32 32 _ r (between w r 4 32 refl ok e) (λ f.
+    step w 64 64 128 r (between w r 5 64 refl ok f) (λ g. between w r 6 128 refl ok g below)))))))

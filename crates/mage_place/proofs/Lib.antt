@@ -10,9 +10,9 @@ pub mod Kept
 pub mod Members
 pub mod Placed
 pub mod Stepped
-pub mod SoundLiterals
 pub mod WorkedExample
 pub mod Below
 pub mod PlacesComputed
 pub mod Ascending
 pub mod StepsComputed
+mod TooWideLemmas

@@ -356,7 +356,7 @@ pos_cond true x y h l = h
 pos_cond false x y h l = l
 
 pub class_pos : (w : ℕ) → 0 < class_of_width w
-class_pos w = pos_cond (leb w 1) 1 _ (omega arith) (pos_cond (leb w 2) 2 _ (omega arith) (pos_cond (leb w 4) 4 _ (omega arith) (pos_cond (leb w 8) 8 _ (omega arith) (pos_cond (leb w 16) 16 _ (omega arith) (pos_cond (leb w 32) 32 64 (omega arith) (omega arith))))))
+class_pos w = pos_cond (leb w 1) 1 _ (omega arith) (pos_cond (leb w 2) 2 _ (omega arith) (pos_cond (leb w 4) 4 _ (omega arith) (pos_cond (leb w 8) 8 _ (omega arith) (pos_cond (leb w 16) 16 _ (omega arith) (pos_cond (leb w 32) 32 _ (omega arith) (pos_cond (leb w 64) 64 128 (omega arith) (omega arith)))))))
 
 pub page_bounds : (page : ℕ) → IsPageSize page → (64 ≤ page) × (page ≤ 65536)
 page_bounds page size =

@@ -1,5 +1,6 @@
 pub mod Classes
 pub mod Live
+pub mod TooWide
 pub mod Places
 pub mod Steps
 pub mod Pages

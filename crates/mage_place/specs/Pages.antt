@@ -19,7 +19,7 @@ has_room wires p = nat_lt 0 (btree_set_len p.freed) || nat_lt p.next (wires / p.
 -- a page of so many wires that is kept right
 pub record IsPage (wires : ℕ) (p : Page) : Type 0 where
   pub class_above : 1 ≤ p.class
-  pub class_below : p.class ≤ 64
+  pub class_below : p.class ≤ 128
   pub within : p.next ≤ wires / p.class
   pub freed : (k : ℕ) → contains nat_cmp p.freed k ≡ true → k < p.next
   pub ordered : IsOrdered nat_cmp p.freed

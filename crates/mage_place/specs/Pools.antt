@@ -35,15 +35,15 @@ ArePages wires pages = (q : ℕ) → ForSome (slice_get pages q) (IsPage wires)
 
 -- the pages are kept right, and so are the lists of the open ones
 pub record IsPool (pool : Pool) : Type 0 where
-  pub classes : length pool.open.items ≡ 65
+  pub classes : length pool.open.items ≡ 129
   pub pages : ArePages pool.wires pool.pages.items
-  pub open_pages : (c q : ℕ) → c < 65 → is_listed pool.open.items c q ≡ is_open pool.wires pool.pages.items c q
+  pub open_pages : (c q : ℕ) → c < 129 → is_listed pool.open.items c q ≡ is_open pool.wires pool.pages.items c q
 
 -- the same, but that page r may be listed wrong
 pub record IsPoolBut (pool : Pool) (r : ℕ) : Type 0 where
-  pub classes : length pool.open.items ≡ 65
+  pub classes : length pool.open.items ≡ 129
   pub pages : ArePages pool.wires pool.pages.items
-  pub open_pages : (c q : ℕ) → c < 65 → ((c == class_at pool.pages.items r) && (q == r)) ≡ false → is_listed pool.open.items c q ≡ is_open pool.wires pool.pages.items c q
+  pub open_pages : (c q : ℕ) → c < 129 → ((c == class_at pool.pages.items r) && (q == r)) ≡ false → is_listed pool.open.items c q ≡ is_open pool.wires pool.pages.items c q
 
 -- place k of the page r, whose class is c, is taken in the new pages; all else is as in the old ones
 pub record TakesPlace (old new : List Page) (wires c r k : ℕ) : Type 0 where

@@ -9,8 +9,10 @@ mod placing;
 mod pool;
 mod pools;
 mod steps;
+mod too_wide;
 mod touched;
 
 pub use classes::class_of;
 pub use laws::{places_are_computed, places_are_determined, steps_are_computed};
 pub use placing::place;
+pub use too_wide::page_tight;

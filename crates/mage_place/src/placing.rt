@@ -1,4 +1,5 @@
-ghost use Rattle.std.specs.Prelude.{◌≡◌, ◌<◌, ◌≤◌, ℕ, length, IsTrue, IfOk, OnOk, MatchBool, Contains, take};
+// The places of results, and the pages that instructions need.
+ghost use Rattle.std.specs.Prelude.{◌≡◌, ◌<◌, ◌≤◌, ℕ, length, IsTrue, IfOk, OnOk, MatchBool, None, false, Contains, take};
 ghost use Rattle.mage_instr.specs.Opcodes.{arity_of, has_result, width_of_result};
 ghost use Rattle.mage_instr.specs.declared.instr.TheConstants.{NEVER};
 ghost use Rattle.mage_instr.specs.Sound.{IsSound};
@@ -7,6 +8,7 @@ ghost use Rattle.mage_place.specs.Live.{class_of_result, values_touched_by};
 ghost use Rattle.mage_place.specs.Places.{IsPageSize, ArePlaces, nowhere, place_of, next_page};
 ghost use Rattle.mage_place.specs.Placing.{places_of, trace_of};
 ghost use Rattle.mage_place.specs.Steps.{AreSteps};
+ghost use Rattle.mage_place.specs.TooWide.{is_too_wide, page_tight};
 ghost use Rattle.mage_place.specs.Pools.{IsPool, IsOn, Gives, FreesEnded};
 
 use crate::class_of;
@@ -28,11 +30,13 @@ use std::alloc::Global;
 /// number from 0. So a page without a live value is never taken again, and there are at most as many pages as
 /// instructions.
 ///
-/// `instrs` is a list that can run, and `page` is a power of two from 64 to 65,536. The one error is want of memory,
+/// `instrs` is a list that can run, `page` is a power of two from 64 to 65,536, and each value fits a page
+/// (`page_tight`). The one error is want of memory,
 /// and no clause says when it comes, nor how long the call takes.
 pub fn place(alloc: Global, instrs: &[Instr], page: u32) -> Result<(Vec<Place>, Vec<Step>), Memory>
     requires sound { IsSound instrs.now }
     requires page { IsPageSize page }
+    requires fits { page_tight page instrs.now ≡ None }
     ensures places { IfOk result (λ placed. ArePlaces instrs.now page placed.0.items) }
     ensures steps { IfOk result (λ placed. AreSteps instrs.now placed.0.items placed.1.items) }
     ensures trace { IfOk result (λ placed. IsTrace placed.1.items) }
@@ -49,6 +53,7 @@ pub fn place(alloc: Global, instrs: &[Instr], page: u32) -> Result<(Vec<Place>, 
 fn places_of(alloc: Global, instrs: &[Instr], page: u32) -> Result<Vec<Place>, Memory>
     requires sound { IsSound instrs.now }
     requires page { IsPageSize page }
+    requires fits { page_tight page instrs.now ≡ None }
     ensures places { IfOk result (λ places. ArePlaces instrs.now page places.items) }
     ensures few { IfOk result (λ places. next_page places.items ≤ length instrs.now) }
 {
@@ -66,8 +71,9 @@ fn places_of(alloc: Global, instrs: &[Instr], page: u32) -> Result<Vec<Place>, M
 // A place for the result of an instruction, where it has one.
 fn place_result(pool: &mut Pool, alloc: Global, instr: Instr) -> Result<Place, Memory>
     requires pool { IsPool pool.old }
-    requires width { (1 ≤ instr.width) × (instr.width ≤ 64) }
-    requires wires { (64 ≤ pool.old.wires) × (pool.old.wires ≤ 65536) }
+    requires width { (1 ≤ instr.width) × (instr.width ≤ 128) }
+    requires fits { is_too_wide pool.old.wires instr ≡ false }
+    requires wires { pool.old.wires ≤ 65536 }
     requires few { length pool.old.pages.items < NEVER }
     ensures pool { OnOk result (IsPool pool.new) }
     ensures wires { OnOk result (pool.new.wires ≡ pool.old.wires) }

@@ -10,14 +10,14 @@ use mage_instr::Place;
 use std::alloc::Global;
 use std::collections::BTreeSet;
 
-// No page. The lists of open pages go by class, from 0 to 64.
+// No page. The lists of open pages go by class, from 0 to 128.
 pub fn no_pages(alloc: Global, wires: u32) -> Result<Pool, Memory>
     ensures pool { IfOk result IsPool }
     ensures wires { IfOk result (λ pool. pool.wires ≡ wires) }
     ensures pages { IfOk result (λ pool. pool.pages.items ≡ []) }
 {
-    let mut open = Vec::with_capacity(alloc, 65)?;
-    for _ in 0..65u32 {
+    let mut open = Vec::with_capacity(alloc, 129)?;
+    for _ in 0..129u32 {
         open.push(BTreeSet::new(alloc))?;
     }
     Ok(Pool {
@@ -30,8 +30,9 @@ pub fn no_pages(alloc: Global, wires: u32) -> Result<Pool, Memory>
 // A place for a value of this class.
 pub fn take(pool: &mut Pool, alloc: Global, class: u8) -> Result<Place, Memory>
     requires pool { IsPool pool.old }
-    requires class { (1 ≤ class) × (class ≤ 64) }
-    requires wires { (64 ≤ pool.old.wires) × (pool.old.wires ≤ 65536) }
+    requires class { (1 ≤ class) × (class ≤ 128) }
+    requires fits { class ≤ pool.old.wires }
+    requires wires { pool.old.wires ≤ 65536 }
     requires few { length pool.old.pages.items < NEVER }
     ensures pool { OnOk result (IsPool pool.new) }
     ensures wires { OnOk result (pool.new.wires ≡ pool.old.wires) }
@@ -46,7 +47,7 @@ pub fn take(pool: &mut Pool, alloc: Global, class: u8) -> Result<Place, Memory>
 // The open page of a class with the highest number.
 fn last_open(pool: &Pool, class: u8) -> Option<u32>
     requires pool { IsPool pool.now }
-    requires class { class ≤ 64 }
+    requires class { class ≤ 128 }
     ensures some { IfSome result (λ q. is_open pool.now.wires pool.now.pages.items class q ≡ true) }
     ensures highest { IfSome result (λ q. (r : ℕ) → q < r → is_open pool.now.wires pool.now.pages.items class r ≡ false) }
     ensures none { IfNone result ((r : ℕ) → is_open pool.now.wires pool.now.pages.items class r ≡ false) }
@@ -57,8 +58,9 @@ fn last_open(pool: &Pool, class: u8) -> Option<u32>
 // The lowest free place of an open page.
 fn reuse(pool: &mut Pool, page: u32, class: u8) -> Result<Place, Memory>
     requires pool { IsPool pool.old }
-    requires class { (1 ≤ class) × (class ≤ 64) }
-    requires wires { (64 ≤ pool.old.wires) × (pool.old.wires ≤ 65536) }
+    requires class { (1 ≤ class) × (class ≤ 128) }
+    requires fits { class ≤ pool.old.wires }
+    requires wires { pool.old.wires ≤ 65536 }
     requires open { is_open pool.old.wires pool.old.pages.items class page ≡ true }
     ensures pool { OnOk result (IsPool pool.new) }
     ensures wires { OnOk result (pool.new.wires ≡ pool.old.wires) }
@@ -73,8 +75,9 @@ fn reuse(pool: &mut Pool, page: u32, class: u8) -> Result<Place, Memory>
 // The first place of a new page.
 fn add(pool: &mut Pool, alloc: Global, class: u8) -> Result<Place, Memory>
     requires pool { IsPool pool.old }
-    requires class { (1 ≤ class) × (class ≤ 64) }
-    requires wires { (64 ≤ pool.old.wires) × (pool.old.wires ≤ 65536) }
+    requires class { (1 ≤ class) × (class ≤ 128) }
+    requires fits { class ≤ pool.old.wires }
+    requires wires { pool.old.wires ≤ 65536 }
     requires few { length pool.old.pages.items < NEVER }
     ensures pool { OnOk result (IsPool pool.new) }
     ensures wires { OnOk result (pool.new.wires ≡ pool.old.wires) }

@@ -18,9 +18,13 @@ without_empty_end (part ∷ parts) = part ∷ without_empty_end parts
 abbrev pub lines_of : List ℕ → List (List ℕ)
 lines_of text = without_empty_end (slice_split (λ byte. byte == 10) text)
 
--- a line is 1 to 20 decimal digits
+-- the most digits of a line, with leading zeros
+abbrev pub most_digits : ℕ
+most_digits = 39
+
+-- a line is 1 to 39 decimal digits
 abbrev pub is_number : List ℕ → Bool
-is_number line = nat_le 1 (length line) && (nat_le (length line) 20 && list_all is_ascii_digit line)
+is_number line = nat_le 1 (length line) && (nat_le (length line) most_digits && list_all is_ascii_digit line)
 
 -- the number of a line, where the line is right for a value of this width
 abbrev pub number_of_line : ℕ → List ℕ → Option ℕ
@@ -60,9 +64,9 @@ IsReadOf inputs (Ok numbers) = inputs ≡ Ok (lists_of numbers.items)
 IsReadOf inputs (Err (faults.Line line)) = inputs ≡ Err line
 IsReadOf inputs (Err faults.Memory) = Unit {0}
 
--- the width of an input value
+-- the width of an input value, in bits
 abbrev pub IsWidth : ℕ → Type 0
-IsWidth width = (1 ≤ width) × (width ≤ 64)
+IsWidth width = (1 ≤ width) × (width ≤ 128)
 
 -- a list of numbers for each list of widths, a number for each width, and each number below 2 to its width
 abbrev pub FitWidths : List (List ℕ) → List (List ℕ) → Type 0

@@ -1,7 +1,8 @@
 // The numbers of an input text.
-ghost use Rattle.std.specs.Prelude.{◌≡◌, ◌+◌, ◌^◌, ◌<◌, ◌≤◌, ◌∷◌, length, [], All, IfOk, IfErr, IsTrue, position, ◌==◌, ℕ, List};
+ghost use Rattle.std.specs.Prelude.{◌≡◌, ◌+◌, ◌^◌, ◌<◌, ◌≤◌, ◌∷◌, length, [], All, IfOk, IfErr, IsTrue, nat_lt, ◌*◌, position, ◌==◌, ℕ, List};
 ghost use Rattle.std.specs.List.{list_all};
-ghost use Rattle.std.specs.Char.{is_ascii_digit};
+ghost use Rattle.std.specs.Char.{is_ascii_digit, digit_value};
+ghost use Rattle.std.specs.Option.{SomeIff};
 ghost use Rattle.std.specs.Str.Parse.{digits_value};
 ghost use Rattle.mage_texts.specs.Lists.{lists_of};
 ghost use Rattle.mage_texts.specs.InputText.{inputs_of, lines_of, number_of_line, IsReadOf, IsWidth, FitWidths};
@@ -22,19 +23,19 @@ pub enum InputFault {
 }
 
 // The most digits of a line.
-const DIGITS: usize = 20;
+const DIGITS: usize = 39;
 
 /// The numbers of an input text, by worker and in order: `widths` has a list for each worker, of the widths of its
 /// values.
 ///
 /// The text has one line for each value, worker 0's first. Line feeds part the lines, and the last one is optional.
-/// A line is 1 to 20 decimal digits, leading zeros allowed, of a number below 2 to the value's width. The fault is
+/// A line is 1 to 39 decimal digits, leading zeros allowed, of a number below 2 to the value's width. The fault is
 /// the first line that is bad, missing or too many.
 pub fn read_inputs(
     alloc: Global,
     text: &[u8],
     widths: &[Vec<u8>],
-) -> Result<Vec<Vec<u64>>, InputFault>
+) -> Result<Vec<Vec<u128>>, InputFault>
     requires { All (λ own. All IsWidth own.items) widths.now }
     ensures numbers { IsReadOf (inputs_of text.now (lists_of widths.now)) result }
     ensures fit { IfOk result (λ numbers. FitWidths (lists_of widths.now) (lists_of numbers.items)) }
@@ -82,30 +83,45 @@ fn are_digits(line: &[u8]) -> bool
     line.iter().all(|byte| byte.is_ascii_digit())
 }
 
-// The number that at most 20 digits write.
-fn value_of(digits: &[u8]) -> u128
-    requires few { length digits.now ≤ 20 }
-    requires digits { IsTrue (list_all is_ascii_digit digits.now) }
-    ensures { result ≡ digits_value 10 digits.now }
+// The number that decimal digits write, where it is below 2 to 128.
+fn value_of(digits: &[u8]) -> Option<u128>
+    requires { IsTrue (list_all is_ascii_digit digits.now) }
+    ensures { SomeIff result (digits_value 10 digits.now < 2 ^ 128) (digits_value 10 digits.now) }
 {
-    let mut value = 0;
+    let mut value: u128 = 0;
     for digit in digits {
-        value = value * 10 + u128::from(*digit - b'0');
+        value = with_digit(value, *digit)?;
     }
-    value
+    Some(value)
+}
+
+// The number with one decimal digit more, where it is below 2 to 128.
+fn with_digit(value: u128, digit: u8) -> Option<u128>
+    requires { IsTrue (is_ascii_digit digit) }
+    ensures { SomeIff result (value * 10 + digit_value digit < 2 ^ 128) (value * 10 + digit_value digit) }
+{
+    value.checked_mul(10)?.checked_add(u128::from(digit - b'0'))
+}
+
+// Whether a number fits a width.
+fn fits(value: u128, width: u8) -> bool
+    requires { IsWidth width }
+    ensures { result ≡ nat_lt value (2 ^ width) }
+{
+    width == 128 || value < 1 << width
 }
 
 // The number of a line that is right for a value of this width.
-fn number_of(line: &[u8], width: u8) -> Option<u64>
+fn number_of(line: &[u8], width: u8) -> Option<u128>
     requires { IsWidth width }
     ensures { result ≡ number_of_line width line.now }
 {
     if line.is_empty() || line.len() > DIGITS || !are_digits(line) {
         return None;
     }
-    let value = value_of(line);
-    if value < 1 << width {
-        Some(value as u64)
+    let value = value_of(line)?;
+    if fits(value, width) {
+        Some(value)
     } else {
         None
     }
@@ -119,7 +135,7 @@ struct Lines<'a> {
 }
 
 // The number of the next line for a value of this width, and the lines after it.
-fn next_number<'a>(lines: Lines<'a>, width: u8) -> Result<(u64, Lines<'a>), InputFault>
+fn next_number<'a>(lines: Lines<'a>, width: u8) -> Result<(u128, Lines<'a>), InputFault>
     requires width { IsWidth width }
     requires countable { lines.number + length lines.rest.now < 2 ^ 64 }
     ensures number { IfOk result (λ next.
@@ -148,7 +164,7 @@ fn read_worker<'a>(
     alloc: Global,
     lines: Lines<'a>,
     widths: &[u8],
-) -> Result<(Vec<u64>, Lines<'a>), InputFault>
+) -> Result<(Vec<u128>, Lines<'a>), InputFault>
     requires widths { All IsWidth widths.now }
     requires countable { lines.number + length lines.rest.now < 2 ^ 64 }
     ensures numbers { IfOk result (λ next.

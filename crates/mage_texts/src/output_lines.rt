@@ -8,7 +8,7 @@ use mage_base::Memory;
 use std::alloc::Global;
 
 /// The text of each worker's outputs: each output in decimal digits with a line feed, worker 0's first.
-pub fn output_text(alloc: Global, outputs: &[Vec<u64>]) -> Result<Vec<u8>, Memory>
+pub fn output_text(alloc: Global, outputs: &[Vec<u128>]) -> Result<Vec<u8>, Memory>
     ensures { IfOk result (λ text. text.items ≡ text_of (lists_of outputs.now)) }
 {
     let mut text = String::new(alloc);
@@ -19,7 +19,7 @@ pub fn output_text(alloc: Global, outputs: &[Vec<u64>]) -> Result<Vec<u8>, Memor
 }
 
 // Adds the lines of one worker's outputs.
-fn add_outputs(text: &mut String, outputs: &[u64]) -> Result<(), Memory>
+fn add_outputs(text: &mut String, outputs: &[u128]) -> Result<(), Memory>
     ensures { OnOk result (string_bytes text.new ≡ string_bytes text.old ++ lines_of_outputs outputs.now) }
 {
     for output in outputs {

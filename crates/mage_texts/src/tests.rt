@@ -5,13 +5,13 @@ use super::*;
 use mage_base::Memory;
 use std::alloc::{AllocError, Global};
 
-// The widths that are 1 to 64.
+// The widths that are 1 to 128.
 fn widths_of_worker(alloc: Global, worker: &[u8]) -> Result<Vec<u8>, AllocError>
     ensures { IfOk result (λ widths. All IsWidth widths.items) }
 {
     let mut widths = Vec::new(alloc);
     for width in worker {
-        if *width >= 1 && *width <= 64 {
+        if *width >= 1 && *width <= 128 {
             widths.push(*width)?;
         }
     }
@@ -32,12 +32,13 @@ fn widths_of(alloc: Global, workers: &[&[u8]]) -> Result<Vec<Vec<u8>>, AllocErro
 fn reads_inputs(rt: HostRuntime) -> Result<(), AllocError> {
     let alloc = rt.alloc();
     let one: &[&[u8]] = &[&[8]];
-    let widest: &[&[u8]] = &[&[64]];
+    let wide: &[&[u8]] = &[&[64]];
+    let widest: &[&[u8]] = &[&[128]];
     let bit: &[&[u8]] = &[&[1]];
     let two: &[&[u8]] = &[&[8], &[64]];
     let three: &[&[u8]] = &[&[8, 3], &[], &[64]];
     let idle: &[&[u8]] = &[&[]];
-    let table: [(&[&[u8]], &str, &str); 32] = [
+    let table: [(&[&[u8]], &str, &str); 33] = [
         (one, "200", "Ok([[200]])"),
         (one, "200\n", "Ok([[200]])"),
         (one, "255", "Ok([[255]])"),
@@ -56,15 +57,29 @@ fn reads_inputs(rt: HostRuntime) -> Result<(), AllocError> {
         (one, "1x", "Err(Line { line: 1 })"),
         (bit, "1", "Ok([[1]])"),
         (bit, "2", "Err(Line { line: 1 })"),
-        (bit, "00000000000000000001", "Ok([[1]])"),
-        (bit, "000000000000000000001", "Err(Line { line: 1 })"),
+        (bit, "000000000000000000000000000000000000001", "Ok([[1]])"),
+        (
+            bit,
+            "0000000000000000000000000000000000000001",
+            "Err(Line { line: 1 })",
+        ),
+        (wide, "18446744073709551615", "Ok([[18446744073709551615]])"),
+        (wide, "18446744073709551616", "Err(Line { line: 1 })"),
         (
             widest,
-            "18446744073709551615",
-            "Ok([[18446744073709551615]])",
+            "340282366920938463463374607431768211455",
+            "Ok([[340282366920938463463374607431768211455]])",
         ),
-        (widest, "18446744073709551616", "Err(Line { line: 1 })"),
-        (widest, "99999999999999999999", "Err(Line { line: 1 })"),
+        (
+            widest,
+            "340282366920938463463374607431768211456",
+            "Err(Line { line: 1 })",
+        ),
+        (
+            widest,
+            "999999999999999999999999999999999999999",
+            "Err(Line { line: 1 })",
+        ),
         (two, "1\n2\n", "Ok([[1], [2]])"),
         (two, "1\n\n2", "Err(Line { line: 2 })"),
         (two, "1", "Err(Line { line: 2 })"),
@@ -92,10 +107,10 @@ fn says_outputs(rt: HostRuntime) -> Result<(), Memory> {
         output_text(alloc, one.as_slice())?.as_slice(),
         "44\n".as_bytes()
     );
-    let two = vec![in alloc; vec![in alloc]?, vec![in alloc; 0, u64::MAX]?]?;
+    let two = vec![in alloc; vec![in alloc]?, vec![in alloc; 0, u128::MAX]?]?;
     assert_eq!(rt;
         output_text(alloc, two.as_slice())?.as_slice(),
-        "0\n18446744073709551615\n".as_bytes()
+        "0\n340282366920938463463374607431768211455\n".as_bytes()
     );
     Ok(())
 }

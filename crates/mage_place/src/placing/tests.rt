@@ -1,5 +1,6 @@
 use super::*;
-use mage_instr::Op;
+use crate::page_tight;
+use mage_instr::{Op, Tight};
 use std::test::Fail;
 
 macro_rules! instr {
@@ -206,4 +207,16 @@ fn the_least_power_of_two(rt: HostRuntime) {
     assert_eq!(rt; class_of(32), 32);
     assert_eq!(rt; class_of(33), 64);
     assert_eq!(rt; class_of(64), 64);
+}
+
+// A value of 128 bits needs a page of 128 wires.
+#[test]
+fn a_value_wider_than_a_page(rt: HostRuntime) {
+    let instrs = [instr!(Input 8 0 0), instr!(Input 65 0 0)];
+    let wide = Some(Tight::Page {
+        instr: 1,
+        class: 128,
+    });
+    assert_eq!(rt; page_tight(&instrs, 64), wide);
+    assert_eq!(rt; page_tight(&instrs, 128), None);
 }

@@ -6,6 +6,7 @@ use Rattle.mage_place.specs.Live.{class_of_result}
 use Rattle.mage_place.specs.Pools.{ArePages}
 use Rattle.mage_place.proofs.SoundFacts.{no_instr, sound_at}
 use Rattle.mage_place.proofs.Placed.{Kept-start, Kept-more, values_more, given_pages, class_pos, page_bounds, ArePlaces-from_Kept}
+use Rattle.mage_place.proofs.TooWideLemmas.{fits_at}
 use Rattle.mage_place.proofs.placing.places_of.Goals as goal
 
 pub loop-t-init : goal.loop-t-init
@@ -21,8 +22,13 @@ place_result-requires-clause-width c =
     let is = slice_get-get_or instrs t no_instr (omega arith) in
     let s = sound_at instrs t i c.requires.sound is in (s.0.0, s.0.1)
 
+pub place_result-requires-clause-fits : goal.place_result-requires-clause-fits
+place_result-requires-clause-fits c =
+    let t = c.loop-t.t in let instrs = c.args.instrs.now in let i = get_or instrs t no_instr in
+    rw c.loop-t.invariant.wires (fits_at c.args.page instrs t i c.requires.fits (slice_get-get_or instrs t no_instr (omega arith)))
+
 pub place_result-requires-clause-wires : goal.place_result-requires-clause-wires
-place_result-requires-clause-wires c = rw c.loop-t.invariant.wires (page_bounds c.args.page c.requires.page)
+place_result-requires-clause-wires c = rw c.loop-t.invariant.wires (page_bounds c.args.page c.requires.page).1
 
 pub place_result-requires-clause-few : goal.place_result-requires-clause-few
 place_result-requires-clause-few c = omega (arith, c.loop-t.invariant.kept.few, c.requires.sound.count)

@@ -21,7 +21,7 @@ relist-requires-clause-pool d =
     let number : c.len-page.result ≡ n = omega (arith, c.len-page.ensures, pool.pages.ok.0) in
     rw number (record {
       classes = c.requires.pool.classes;
-      pages = ArePages-changed pool.pages.items new n (fresh c) (changed c) pool.wires (IsPage-fresh pool.wires c.args.class c.new.result c.requires.class.0 c.requires.class.1 c.requires.wires.0 c.new.ensures.empty c.new.ensures.ordered) c.requires.pool.pages;
+      pages = ArePages-changed pool.pages.items new n (fresh c) (changed c) pool.wires (IsPage-fresh pool.wires c.args.class c.new.result c.requires.class.0 c.requires.class.1 c.requires.fits c.new.ensures.empty c.new.ensures.ordered) c.requires.pool.pages;
       open_pages = open_pages-changed pool.pages.items new n (fresh c) (changed c) pool.wires pool.open.items (λ k ne. is_open-past pool.wires pool.pages.items k n (omega arith)) c.requires.pool.open_pages;
     })
 
@@ -31,5 +31,5 @@ returns-clause-taken d =
     let c = (goal.at.returns-clause-taken d).In_ok-push in
     let pool = c.args.pool.now in let n = length pool.pages.items in
     rw d.relist.ensures.pages (TakesPlace-changed pool.pages.items c.push.new.self.items n (fresh c) (changed c) pool.wires c.args.class 0
-    (le-div 1 pool.wires c.args.class c.requires.class.0 (omega (arith, c.requires.class, c.requires.wires))) refl (λ h. absurd (omega arith))
+    (le-div 1 pool.wires c.args.class c.requires.class.0 (omega (arith, c.requires.class, c.requires.fits))) refl (λ h. absurd (omega arith))
     (λ j. is_taken_on-fresh c.args.class c.new.result j c.new.ensures.empty ∙ rw (is_taken-past pool.pages.items n j (omega arith)) refl))

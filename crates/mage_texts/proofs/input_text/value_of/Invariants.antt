@@ -6,7 +6,8 @@ use Rattle.mage_texts.proofs.input_text.value_of.Given as goal
 
 -- the value so far, followed by the digits that are left, is the whole
 abbrev pub invariant-loop-digit : goal.invariant-loop-digit
-invariant-loop-digit l =
-    (l.value < 10 ^ l.digit-index)
-    × (list_all is_ascii_digit (drop l.digit-index l.digits) ≡ true)
-    × (digits_value_after 10 l.value (drop l.digit-index l.digits) ≡ digits_value 10 l.digits)
+invariant-loop-digit l = record {
+  fits : l.value < 2 ^ 128;
+  digits : list_all is_ascii_digit (drop l.digit-index l.digits) ≡ true;
+  whole : digits_value_after 10 l.value (drop l.digit-index l.digits) ≡ digits_value 10 l.digits;
+}

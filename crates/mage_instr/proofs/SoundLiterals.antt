@@ -11,23 +11,53 @@ use Rattle.mage_instr.specs.Sound.{arg_of, Defines, IsArgument, IsSoundAt, IsSou
 
 abbrev imm_ok : Op → (w imm : ℕ) → Bool
 imm_ok op.Input w imm = leb imm 1
-imm_ok op.Const w imm = ltb imm (2 ^ w)
-imm_ok op.Shl w imm = leb imm 64
-imm_ok op.Shr w imm = leb imm 64
-imm_ok op.Resize w imm = leb 1 imm && leb imm 64
+imm_ok op.Const w imm = ltb imm (2 ^ w) && ltb imm (2 ^ 64)
+imm_ok op.Output w imm = eqb imm 0
+imm_ok op.Add w imm = eqb imm 0
+imm_ok op.Sub w imm = eqb imm 0
+imm_ok op.Mul w imm = eqb imm 0
+imm_ok op.And w imm = eqb imm 0
+imm_ok op.Or w imm = eqb imm 0
+imm_ok op.Xor w imm = eqb imm 0
+imm_ok op.Not w imm = eqb imm 0
+imm_ok op.Eq w imm = eqb imm 0
+imm_ok op.Lt w imm = eqb imm 0
+imm_ok op.Mux w imm = eqb imm 0
+imm_ok op.Shl w imm = leb imm 128
+imm_ok op.Shr w imm = leb imm 128
+imm_ok op.Resize w imm = leb 1 imm && leb imm 128
 imm_ok op.Send w imm = ltb imm 16
 imm_ok op.Recv w imm = ltb imm 16
-imm_ok _ w imm = eqb imm 0
+imm_ok op.Div w imm = eqb imm 0
+imm_ok op.Rem w imm = eqb imm 0
+imm_ok op.Count w imm = eqb imm 0
+imm_ok op.Min w imm = eqb imm 0
+imm_ok op.Max w imm = eqb imm 0
 
 ImmOk-from_test : (o : Op) (w imm : ℕ) → imm_ok o w imm ≡ true → ImmOk o w imm
 ImmOk-from_test op.Input w imm h = leb-true imm 1 h
-ImmOk-from_test op.Const w imm h = ltb-true imm (2 ^ w) h
-ImmOk-from_test op.Shl w imm h = leb-true imm 64 h
-ImmOk-from_test op.Shr w imm h = leb-true imm 64 h
-ImmOk-from_test op.Resize w imm h = let both = and_parts (leb 1 imm) (leb imm 64) h in (leb-true 1 imm both.0, leb-true imm 64 both.1)
+ImmOk-from_test op.Const w imm h = let both = and_parts (ltb imm (2 ^ w)) (ltb imm (2 ^ 64)) h in (ltb-true imm (2 ^ w) both.0, ltb-true imm (2 ^ 64) both.1)
+ImmOk-from_test op.Output w imm h = eqb-true imm 0 h
+ImmOk-from_test op.Add w imm h = eqb-true imm 0 h
+ImmOk-from_test op.Sub w imm h = eqb-true imm 0 h
+ImmOk-from_test op.Mul w imm h = eqb-true imm 0 h
+ImmOk-from_test op.And w imm h = eqb-true imm 0 h
+ImmOk-from_test op.Or w imm h = eqb-true imm 0 h
+ImmOk-from_test op.Xor w imm h = eqb-true imm 0 h
+ImmOk-from_test op.Not w imm h = eqb-true imm 0 h
+ImmOk-from_test op.Eq w imm h = eqb-true imm 0 h
+ImmOk-from_test op.Lt w imm h = eqb-true imm 0 h
+ImmOk-from_test op.Mux w imm h = eqb-true imm 0 h
+ImmOk-from_test op.Shl w imm h = leb-true imm 128 h
+ImmOk-from_test op.Shr w imm h = leb-true imm 128 h
+ImmOk-from_test op.Resize w imm h = let both = and_parts (leb 1 imm) (leb imm 128) h in (leb-true 1 imm both.0, leb-true imm 128 both.1)
 ImmOk-from_test op.Send w imm h = ltb-true imm 16 h
 ImmOk-from_test op.Recv w imm h = ltb-true imm 16 h
-ImmOk-from_test _ w imm h = eqb-true imm 0 h
+ImmOk-from_test op.Div w imm h = eqb-true imm 0 h
+ImmOk-from_test op.Rem w imm h = eqb-true imm 0 h
+ImmOk-from_test op.Count w imm h = eqb-true imm 0 h
+ImmOk-from_test op.Min w imm h = eqb-true imm 0 h
+ImmOk-from_test op.Max w imm h = eqb-true imm 0 h
 
 abbrev defines : Option Instr → ℕ → Bool
 defines None w = false
@@ -51,14 +81,14 @@ abbrev arg_ok : List Instr → ℕ → Instr → ℕ → Bool
 arg_ok all t i k = ltb (arg_of i k) t && defines (slice_get all (arg_of i k)) (width_of_arg i.op i.width i.imm k)
 
 abbrev instr_ok : List Instr → ℕ → Instr → Bool
-instr_ok all t i = (leb 1 i.width && (leb i.width 64 && imm_ok i.op i.width i.imm)) && each_below (arity_of i.op) (arg_ok all t i)
+instr_ok all t i = (leb 1 i.width && (leb i.width 128 && imm_ok i.op i.width i.imm)) && each_below (arity_of i.op) (arg_ok all t i)
 
 IsSoundAt-from_test : (all : List Instr) (t : ℕ) (i : Instr) → instr_ok all t i ≡ true → IsSoundAt all t i
 IsSoundAt-from_test all t i h =
-    let parts = and_parts (leb 1 i.width && (leb i.width 64 && imm_ok i.op i.width i.imm)) (each_below (arity_of i.op) (arg_ok all t i)) h in
-    let wide = and_parts (leb 1 i.width) (leb i.width 64 && imm_ok i.op i.width i.imm) parts.0 in
-    let more = and_parts (leb i.width 64) (imm_ok i.op i.width i.imm) wide.1 in
-    ((leb-true 1 i.width wide.0, leb-true i.width 64 more.0, ImmOk-from_test i.op i.width i.imm more.1), args parts.1) where
+    let parts = and_parts (leb 1 i.width && (leb i.width 128 && imm_ok i.op i.width i.imm)) (each_below (arity_of i.op) (arg_ok all t i)) h in
+    let wide = and_parts (leb 1 i.width) (leb i.width 128 && imm_ok i.op i.width i.imm) parts.0 in
+    let more = and_parts (leb i.width 128) (imm_ok i.op i.width i.imm) wide.1 in
+    ((leb-true 1 i.width wide.0, leb-true i.width 128 more.0, ImmOk-from_test i.op i.width i.imm more.1), args parts.1) where
       args : each_below (arity_of i.op) (arg_ok all t i) ≡ true → (k : ℕ) → k < arity_of i.op → IsArgument all t i k
       args good k l =
           let both = and_parts (ltb (arg_of i k) t) (defines (slice_get all (arg_of i k)) (width_of_arg i.op i.width i.imm k)) (below_from_test (arity_of i.op) (arg_ok all t i) good k l) in
