@@ -42,7 +42,8 @@ fn command_of<'a>(
 
 // What an error of `clap` comes to.
 fn fault_of(error: Error) -> WordsFault
-    ensures { result ≡ WordsFault.Words → kind_of error ≢ ErrorKind.OutOfMemory }
+    ensures words { result ≡ WordsFault.Words → kind_of error ≢ ErrorKind.OutOfMemory }
+    ensures memory { result ≡ WordsFault.Memory → kind_of error ≡ ErrorKind.OutOfMemory }
 {
     match error.kind() {
         ErrorKind::OutOfMemory => WordsFault::Memory,

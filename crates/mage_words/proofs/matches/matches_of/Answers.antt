@@ -38,4 +38,4 @@ returns-in-Err-clause-refused c = λ pairs is words.
     let os = map rule_of c.args.options.now in
     let made = c.in-Ok.ensures in
     let free = ap is_simple_and_free made ∙ simple_and_free c.args.name.now os in
-    sym (none_where_taken c.args.name.now os _ made (bytes_of_words c.args.words.now) pairs (has_words c.args.words.now c.requires.command) is) ∙ some_kind _ c.in-Err.error (c.in-Err.ensures.kinds free) (c.fault_of.ensures words)
+    sym (none_where_taken c.args.name.now os _ made (bytes_of_words c.args.words.now) pairs (has_words c.args.words.now c.requires.command) is) ∙ some_kind _ c.in-Err.error (c.in-Err.ensures.kinds free) (c.fault_of.ensures.words words)
