@@ -1,0 +1,46 @@
+// Against bytes that another program made. In Python:
+//
+//   seed, label = bytes(32), bytes(range(16, 32))
+//   first = lambda message: hashlib.sha256(message).digest()[:16].hex(' ')
+//   place = lambda worker, number: worker.to_bytes(2, 'big') + number.to_bytes(8, 'big')
+//   first(seed + b'\0'), first(seed + b'\1' + place(2, 0x0102030405060708))
+//   first(b'\2' + label + place(0x0304, 0x05060708090a0b0c))
+//
+// The last byte of the first one is bc, and an offset has its lowest bit set.
+use super::*;
+
+const OFFSET: [u8; 16] = [
+    0x7f, 0x9c, 0x9e, 0x31, 0xac, 0x82, 0x56, 0xca, 0x2f, 0x25, 0x85, 0x83, 0xdf, 0x26, 0x2d, 0xbd,
+];
+
+const INPUT: [u8; 16] = [
+    0x12, 0xa9, 0x4f, 0x62, 0x0f, 0x0d, 0xc6, 0x64, 0x8b, 0xbb, 0xb7, 0x0b, 0x2b, 0xc1, 0x85, 0xa1,
+];
+
+const HASH: [u8; 16] = [
+    0x5d, 0x5f, 0xea, 0xcf, 0x72, 0x4e, 0x2f, 0x28, 0xf2, 0xf8, 0xc5, 0x17, 0x01, 0x8e, 0x61, 0xfd,
+];
+
+const OFFSET_XOR_LABEL: [u8; 16] = [
+    0x6f, 0x8d, 0x8c, 0x22, 0xb8, 0x97, 0x40, 0xdd, 0x37, 0x3c, 0x9f, 0x98, 0xc3, 0x3b, 0x33, 0xa2,
+];
+
+#[test]
+fn the_bytes_of_another_program(rt: HostRuntime) {
+    let seed = [0; 32];
+    let label = Label {
+        bytes: [
+            0x10, 0x11, 0x12, 0x13, 0x14, 0x15, 0x16, 0x17, 0x18, 0x19, 0x1a, 0x1b, 0x1c, 0x1d,
+            0x1e, 0x1f,
+        ],
+    };
+    let r = offset(&seed);
+    let input = input_label(&seed, 2, 0x0102_0304_0506_0708);
+    let hashed = hash(label, 0x0304, 0x0506_0708_090a_0b0c);
+    assert_eq!(rt; r.bytes, OFFSET);
+    assert_eq!(rt; input.bytes, INPUT);
+    assert_eq!(rt; hashed.bytes, HASH);
+    assert_eq!(rt; r.xor(label).bytes, OFFSET_XOR_LABEL);
+    assert!(rt; r.lsb());
+    assert!(rt; !r.xor(label).lsb());
+}
