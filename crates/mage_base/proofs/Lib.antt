@@ -1,0 +1,4 @@
+pub mod Pages
+pub mod FileTables
+pub mod Ledgers
+pub mod FailLists

@@ -3,3 +3,11 @@ pub mod Source
 pub mod Sink
 pub mod Store
 pub mod Desk
+pub mod Calls
+pub mod Bounded
+pub mod MemSource
+pub mod MemSink
+pub mod MemStore
+pub mod DeskFails
+pub mod Ledger
+pub mod MemDesk

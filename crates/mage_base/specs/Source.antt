@@ -1,5 +1,5 @@
 -- What a source tells, and what taking bytes from it leaves.
-use Rattle.std.specs.Prelude.{◌≡◌, ◌<◌, ◌≤◌, ℕ, List, [], ◌++◌, length, take, Bool, Option, Some, IfSome, IsSomeAnd, Result, Ok, Err}
+use Rattle.std.specs.Prelude.{◌≡◌, ◌<◌, ℕ, List, [], ◌++◌, length, take, Bool, Option, IfSome, IsSomeAnd, Result, Ok, Err}
 
 pub record SourceTold : Type 0 where
   -- the bytes that are left, where the source tells them

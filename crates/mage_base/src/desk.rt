@@ -14,7 +14,9 @@ use std::alloc::Global;
 /// or stands there.
 pub trait Desk {
     type Input: Source + Send + Drop;
+
     type Output: Sink + Send + Drop;
+
     type Pages: Store + Send + Drop;
 
     ghost tells: { Self → DeskTold };
@@ -41,7 +43,8 @@ pub trait Desk {
     /// Takes a source back. Its faults are counted.
     fn close_in(&mut self, name: &str, source: Self::Input)
         ensures { tells self.new ≡ record (tells self.old) {
-            faults = count_after (tells self.old).faults (Self.Input.tells source).faults } };
+          faults = count_after (tells self.old).faults (Self.Input.tells source).faults;
+        } };
 
     /// Makes the file with this name empty, to be written with at most `room` bytes. With any answer but Ok no file
     /// changed.
@@ -88,7 +91,10 @@ pub trait Desk {
         ensures room { IsTrue (tells self.old).steady
             → OnOk result ((tells self.new).room + length bytes.now ≡ (tells self.old).room) }
         ensures rest { tells self.new ≡ record (tells self.old) {
-            said = (tells self.new).said; faults = (tells self.new).faults; room = (tells self.new).room } };
+          said = (tells self.new).said;
+          faults = (tells self.new).faults;
+          room = (tells self.new).room;
+        } };
 
     /// Tells the user what went wrong, apart from what is said. After `Failed` some front of the bytes is warned.
     fn warn(&mut self, bytes: &[u8]) -> Result<(), Failed>
@@ -99,6 +105,8 @@ pub trait Desk {
         ensures room { IsTrue (tells self.old).steady
             → OnOk result ((tells self.new).warn_room + length bytes.now ≡ (tells self.old).warn_room) }
         ensures rest { tells self.new ≡ record (tells self.old) {
-            warned = (tells self.new).warned; faults = (tells self.new).faults;
-            warn_room = (tells self.new).warn_room } };
+          warned = (tells self.new).warned;
+          faults = (tells self.new).faults;
+          warn_room = (tells self.new).warn_room;
+        } };
 }

@@ -17,5 +17,8 @@ pub trait Sink {
         ensures room { IsTrue (tells self.old).steady
             → OnOk result ((tells self.new).room + length bytes.now ≡ (tells self.old).room) }
         ensures rest { tells self.new ≡ record (tells self.old) {
-            taken = (tells self.new).taken; faults = (tells self.new).faults; room = (tells self.new).room } };
+          taken = (tells self.new).taken;
+          faults = (tells self.new).faults;
+          room = (tells self.new).room;
+        } };
 }

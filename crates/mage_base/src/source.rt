@@ -17,5 +17,7 @@ pub trait Source {
         ensures cause { Counted (tells self.old).faults (tells self.new).faults result }
         ensures steady { IsTrue (tells self.old).steady → IsOk result }
         ensures rest { tells self.new ≡ record (tells self.old) {
-            left = (tells self.new).left; faults = (tells self.new).faults } };
+          left = (tells self.new).left;
+          faults = (tells self.new).faults;
+        } };
 }
