@@ -1,11 +1,12 @@
 -- What is known of the piece at the front of a text.
-use Rattle.std.proofs.Common.{◌≡◌, ℕ, ◌+◌, ◌<◌, ◌≤◌, ◌^◌, Bool, true, false, cond, List, [], ◌∷◌, length, take, drop, suc, ◌++◌, refl, sym, ap, subst, ◌∙◌, arith}
+use Rattle.std.proofs.Common.{◌≡◌, ℕ, ◌+◌, ◌<◌, ◌≤◌, Bool, true, false, cond, List, [], ◌∷◌, length, take, drop, suc, ◌++◌, refl, sym, ap, subst, ◌∙◌, arith}
 use Rattle.std.specs.Prelude.{Option, Some, None, nat_eq, nat_le, slice_index, ◌||◌, if◌then◌else◌, codes}
 use Rattle.std.specs.List.{take_while, prefix_len, list_all, starts_with}
 use Rattle.std.specs.Char.{is_ascii_digit}
 use Rattle.std.specs.Str.Parse.{digits_value}
 use Rattle.std.proofs.lemmas.Bool.Decides.{nat_tests}
 use Rattle.std.proofs.lemmas.List.Sums.{prefix_len-le-length, take_while-cons}
+use Rattle.mage_lex.specs.Limits.{NUMBER_LIMIT}
 use Rattle.mage_lex.specs.declared.piece.Piece.{Piece}
 use Rattle.mage_lex.specs.declared.piece.Piece.TheVariants as piece
 use Rattle.mage_lex.specs.declared.token.TokenKind.TheVariants as kinds
@@ -54,12 +55,12 @@ word_is x xs e =
     let word : take_while is_in_word (x ∷ xs) ≡ x ∷ take_while is_in_word xs = take_while-cons is_in_word x xs ∙ rw passes refl in
     (some.0, some.1, (taken_front is_in_word (x ∷ xs), rw word (e, all_taken is_in_word xs)))
 
-number_cases : (text digits : List ℕ) (bad : Bool) → (bad ≡ false → digits_value 10 digits < 2 ^ 127) → 0 < length text → 0 < length digits → length digits ≤ length text → take (length digits) text ≡ digits → list_all is_ascii_digit digits ≡ true → IsFront text (if bad then piece.Bad wrong.BadNumber else piece.Lexeme (kinds.Number (digits_value 10 digits)) (length digits))
+number_cases : (text digits : List ℕ) (bad : Bool) → (bad ≡ false → digits_value 10 digits < NUMBER_LIMIT) → 0 < length text → 0 < length digits → length digits ≤ length text → take (length digits) text ≡ digits → list_all is_ascii_digit digits ≡ true → IsFront text (if bad then piece.Bad wrong.BadNumber else piece.Lexeme (kinds.Number (digits_value 10 digits)) (length digits))
 number_cases text digits true below h some within taken all = h
 number_cases text digits false below h some within taken all =
     (some, within, rw taken (refl, all, some, below refl))
 
-number_below : (letter : Bool) (value : ℕ) → (letter || nat_le (2 ^ 127) value) ≡ false → value < 2 ^ 127
+number_below : (letter : Bool) (value : ℕ) → (letter || nat_le NUMBER_LIMIT value) ≡ false → value < NUMBER_LIMIT
 number_below true value e = absurd (cc)
 number_below false value e = grind (arith, nat_tests)
 
@@ -69,7 +70,7 @@ number_is x xs e =
     let digits : List ℕ = take_while is_ascii_digit text in
     let after : List ℕ = drop (length digits) text in
     let some = taken_some is_ascii_digit x xs e in
-    number_cases text digits (is_letter (slice_index after 0) || nat_le (2 ^ 127) (digits_value 10 digits)) (number_below (is_letter (slice_index after 0)) (digits_value 10 digits)) (omega arith) some.0 some.1 (taken_front is_ascii_digit text) (all_taken is_ascii_digit text)
+    number_cases text digits (is_letter (slice_index after 0) || nat_le NUMBER_LIMIT (digits_value 10 digits)) (number_below (is_letter (slice_index after 0)) (digits_value 10 digits)) (omega arith) some.0 some.1 (taken_front is_ascii_digit text) (all_taken is_ascii_digit text)
 
 symbol_cases : (text : List ℕ) (found : Option ℕ) → symbol_row text ≡ found → 0 < length text → IsFront text (symbol_of found)
 symbol_cases text (Some row) e h = let at = symbol_is text row e in (at.some, at.within, (at.bytes, at.known))

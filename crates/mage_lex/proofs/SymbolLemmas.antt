@@ -7,11 +7,12 @@ use Rattle.std.proofs.lemmas.Option.{unwrap_or-slice_get, slice_get_past}
 use Rattle.std.proofs.lemmas.Bool.Decides.{Decides-eqb, nat_tests}
 use Rattle.std.proofs.lemmas.Slice.Eq.{starts_is}
 use Rattle.std.proofs.Math.Seq.{take-append_seam}
-use Rattle.mage_lex.specs.Symbols.{symbols, symbol_row, symbol_bytes}
+use Rattle.mage_lex.specs.Symbols.{symbols, SYMBOL_COUNT, symbol_row, symbol_bytes}
+use Rattle.mage_lex.specs.Names.{AreNamed}
 use Rattle.mage_lex.specs.Tokens.{size_of, symbol_of}
 
 -- a row that no symbol has
-pub no_symbol : (row : ℕ) → 24 ≤ row → symbol_bytes row ≡ []
+pub no_symbol : (row : ℕ) → SYMBOL_COUNT ≤ row → symbol_bytes row ≡ []
 unfolding symbol_bytes
 no_symbol row h = ap (λ found. unwrap_or found []) (slice_get_past symbols row h)
 
@@ -34,7 +35,7 @@ nonempty_at (x ∷ xs) (suc row) e h = nonempty_at xs row (grind (arith, nat_tes
 
 -- what is known of the symbol in the row that was found
 pub record IsSymbolAt (text : List ℕ) (row : ℕ) : Type 0 where
-  pub known : row < 24
+  pub known : row < SYMBOL_COUNT
   pub some : 0 < length (symbol_bytes row)
   pub within : length (symbol_bytes row) ≤ length text
   pub bytes : take (length (symbol_bytes row)) text ≡ symbol_bytes row
@@ -62,3 +63,33 @@ fits_cases text None e h = (omega arith, h)
 -- the symbol at the front takes at least one byte, and none past the end
 pub symbol_fits : (text : List ℕ) → 0 < length text → (0 < size_of (symbol_of (symbol_row text))) × (size_of (symbol_of (symbol_row text)) ≤ length text)
 symbol_fits text h = fits_cases text (symbol_row text) refl h
+
+-- the names are those of their symbols
+pub are_named : AreNamed
+unfolding symbol_bytes
+are_named = record {
+  dots = (refl, refl);
+  equals = (refl, refl);
+  shift_left = (refl, refl);
+  shift_right = (refl, refl);
+  semicolon = (refl, refl);
+  colon = (refl, refl);
+  comma = (refl, refl);
+  open_paren = (refl, refl);
+  close_paren = (refl, refl);
+  open_bracket = (refl, refl);
+  close_bracket = (refl, refl);
+  open_brace = (refl, refl);
+  close_brace = (refl, refl);
+  assign = (refl, refl);
+  less = (refl, refl);
+  plus = (refl, refl);
+  minus = (refl, refl);
+  times = (refl, refl);
+  divide = (refl, refl);
+  remainder = (refl, refl);
+  and = (refl, refl);
+  xor = (refl, refl);
+  or = (refl, refl);
+  not = (refl, refl);
+}

@@ -5,6 +5,7 @@ use Rattle.std.proofs.lemmas.Bool.Decides.{nat_tests}
 use Rattle.std.proofs.Math.Seq.{take-add}
 use Rattle.mage_lex.specs.declared.piece.Piece.{Piece}
 use Rattle.std.specs.Prelude.{Result, Ok, Err, nat_lt, if◌then◌else◌}
+use Rattle.mage_lex.specs.Limits.{MOST_BYTES}
 use Rattle.mage_lex.specs.declared.piece.Place.{Place}
 use Rattle.mage_lex.specs.declared.token.Token.{Token}
 use Rattle.mage_lex.specs.declared.fault.LangFault.{LangFault}
@@ -56,21 +57,21 @@ pub place_first : (text : List ℕ) → record { start = 0; line = 1; column = 1
 unfolding line_after column_after
 place_first text = refl
 
-short_cases : (text : List ℕ) (long : Bool) → nat_lt 1048576 (length text) ≡ long → length text ≤ 1048576 → (if long then Err (faults.At wrong.TooLong 0 0) else tokens_after [] text 0) ≡ tokens_from text 0
+short_cases : (text : List ℕ) (long : Bool) → nat_lt MOST_BYTES (length text) ≡ long → length text ≤ MOST_BYTES → (if long then Err (faults.At wrong.TooLong 0 0) else tokens_after [] text 0) ≡ tokens_from text 0
 short_cases text true t h = absurd (grind (arith, nat_tests))
 short_cases text false t h = refl
 
 -- a text that isn't too long has the tokens from its first byte on
-pub tokens_of_short : (text : List ℕ) → length text ≤ 1048576 → tokens_of text ≡ tokens_from text 0
+pub tokens_of_short : (text : List ℕ) → length text ≤ MOST_BYTES → tokens_of text ≡ tokens_from text 0
 unfolding tokens_of
-tokens_of_short text h = short_cases text (nat_lt 1048576 (length text)) refl h
+tokens_of_short text h = short_cases text (nat_lt MOST_BYTES (length text)) refl h
 
 tokens_end : (text : List ℕ) (n : ℕ) → length text ≤ n → tokens_from text n ≡ Ok []
 unfolding tokens_after
 tokens_end text n h = rw (drop_all n text h) refl
 
 -- what the tokens so far are at the end of the text
-pub all_read : (text : List ℕ) (tokens : List Token) (n : ℕ) → length text ≤ n → in_front tokens (tokens_from text n) ≡ tokens_from text 0 → length text ≤ 1048576 → tokens_of text ≡ Ok tokens
+pub all_read : (text : List ℕ) (tokens : List Token) (n : ℕ) → length text ≤ n → in_front tokens (tokens_from text n) ≡ tokens_from text 0 → length text ≤ MOST_BYTES → tokens_of text ≡ Ok tokens
 all_read text tokens n h e short =
     tokens_of_short text short ∙ sym e ∙ ap (in_front tokens) (tokens_end text n h) ∙ ap Ok (append-nil tokens)
 
@@ -79,7 +80,7 @@ in_front_fault tokens found (faults.At kind line column) e = rw e refl
 in_front_fault tokens found faults.Memory e = tt
 
 -- a fault of the rest is the text's
-pub fault_read : (text : List ℕ) (tokens : List Token) (n : ℕ) (fault : LangFault) → IsFaultOf (tokens_from text n) fault → in_front tokens (tokens_from text n) ≡ tokens_from text 0 → length text ≤ 1048576 → IsFaultOf (tokens_of text) fault
+pub fault_read : (text : List ℕ) (tokens : List Token) (n : ℕ) (fault : LangFault) → IsFaultOf (tokens_from text n) fault → in_front tokens (tokens_from text n) ≡ tokens_from text 0 → length text ≤ MOST_BYTES → IsFaultOf (tokens_of text) fault
 fault_read text tokens n fault told e short =
     rw (tokens_of_short text short, ← e) (in_front_fault tokens (tokens_from text n) fault told)
 
@@ -90,4 +91,4 @@ ok_cases text tokens false e = e
 -- a text that has tokens isn't too long
 pub tokens_of_ok : (text : List ℕ) (tokens : List Token) → tokens_of text ≡ Ok tokens → tokens_after [] text 0 ≡ Ok tokens
 unfolding tokens_of
-tokens_of_ok text tokens e = ok_cases text tokens (nat_lt 1048576 (length text)) e
+tokens_of_ok text tokens e = ok_cases text tokens (nat_lt MOST_BYTES (length text)) e

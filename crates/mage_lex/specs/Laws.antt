@@ -1,10 +1,11 @@
 -- What every answer of the lexer keeps.
-use Rattle.std.specs.Prelude.{◌≡◌, ℕ, ◌+◌, ◌≤◌, ◌<◌, ◌^◌, List, [], ◌∷◌, ◌++◌, length, drop, slice_range, IsTrue, codes}
+use Rattle.std.specs.Prelude.{◌≡◌, ℕ, ◌+◌, ◌≤◌, ◌<◌, List, [], ◌∷◌, ◌++◌, length, drop, slice_range, IsTrue, codes}
 use Rattle.std.specs.List.{list_all}
 use Rattle.std.specs.Char.{is_ascii_digit}
 use Rattle.std.specs.Str.Parse.{digits_value}
 use Rattle.mage_lex.specs.Bytes.{is_blank, is_in_line, is_letter, is_in_word}
-use Rattle.mage_lex.specs.Symbols.{symbol_bytes}
+use Rattle.mage_lex.specs.Limits.{NUMBER_LIMIT}
+use Rattle.mage_lex.specs.Symbols.{SYMBOL_COUNT, symbol_bytes}
 use Rattle.mage_lex.specs.declared.token.Token.{Token}
 use Rattle.mage_lex.specs.declared.token.TokenKind.{TokenKind}
 use Rattle.mage_lex.specs.declared.token.TokenKind.TheVariants as kinds
@@ -17,8 +18,8 @@ IsWord (first ∷ rest) = IsTrue (is_letter first) × IsTrue (list_all is_in_wor
 -- the bytes are those of a token of this kind
 abbrev pub Spells : TokenKind → List ℕ → Type 0
 Spells (kinds.Word word) bytes = (bytes ≡ word) × IsWord word
-Spells (kinds.Number value) bytes = (digits_value 10 bytes ≡ value) × IsTrue (list_all is_ascii_digit bytes) × (0 < length bytes) × (value < 2 ^ 127)
-Spells (kinds.Symbol row) bytes = (bytes ≡ symbol_bytes row) × (row < 24)
+Spells (kinds.Number value) bytes = (digits_value 10 bytes ≡ value) × IsTrue (list_all is_ascii_digit bytes) × (0 < length bytes) × (value < NUMBER_LIMIT)
+Spells (kinds.Symbol row) bytes = (bytes ≡ symbol_bytes row) × (row < SYMBOL_COUNT)
 
 -- the bytes of the text at the token's place are the token's
 abbrev pub IsSpelled : List ℕ → Token → Type 0

@@ -1,8 +1,9 @@
 -- The tokens of a text.
-use Rattle.std.specs.Prelude.{◌≡◌, ℕ, zero, suc, ◌-◌, ◌^◌, ◌||◌, List, [], ◌∷◌, ◌++◌, length, take_while, take, drop, Option, Some, None, Result, Ok, Err, nat_eq, nat_le, nat_lt, slice_index, codes, if◌then◌else◌}
+use Rattle.std.specs.Prelude.{◌≡◌, ℕ, zero, suc, ◌-◌, ◌||◌, List, [], ◌∷◌, ◌++◌, length, take_while, take, drop, Option, Some, None, Result, Ok, Err, nat_eq, nat_le, nat_lt, slice_index, codes, if◌then◌else◌}
 use Rattle.std.specs.List.{starts_with}
 use Rattle.std.specs.Char.{is_ascii_digit}
 use Rattle.std.specs.Str.Parse.{digits_value}
+use Rattle.mage_lex.specs.Limits.{MOST_BYTES, NUMBER_LIMIT}
 use Rattle.mage_lex.specs.Bytes.{is_blank, is_in_line, is_letter, is_in_word}
 use Rattle.mage_lex.specs.Symbols.{symbol_row, symbol_bytes}
 use Rattle.mage_lex.specs.Places.{place_after}
@@ -24,7 +25,7 @@ word_of text = let word = take_while is_in_word text in piece.Lexeme (kinds.Word
 -- a number that these digits write, where it is small enough and no letter follows it directly
 abbrev pub number_from : List ℕ → List ℕ → Piece
 number_from digits after =
-    if is_letter (slice_index after 0) || nat_le (2 ^ 127) (digits_value 10 digits) then piece.Bad wrong.BadNumber
+    if is_letter (slice_index after 0) || nat_le NUMBER_LIMIT (digits_value 10 digits) then piece.Bad wrong.BadNumber
     else piece.Lexeme (kinds.Number (digits_value 10 digits)) (length digits)
 
 -- the number at the front
@@ -89,7 +90,7 @@ tokens_after before (first ∷ rest) zero =
 -- the tokens of a text, or its first fault
 unfoldable pub tokens_of : List ℕ → Result (List Token) LangFault
 tokens_of text =
-    if nat_lt 1048576 (length text) then Err (faults.At wrong.TooLong 0 0)
+    if nat_lt MOST_BYTES (length text) then Err (faults.At wrong.TooLong 0 0)
     else tokens_after [] text 0
 
 -- the tokens from the n-th byte of a text on

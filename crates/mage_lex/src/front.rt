@@ -1,8 +1,9 @@
 // What stands at the front of a text.
-ghost use Rattle.std.specs.Prelude.{◌≡◌, ℕ, ◌≤◌, ◌<◌, ◌^◌, ◌*◌, ◌+◌, length, nat_eq, take_while, slice_index, EachIndex, position, IsTrue, IfOk, IfSome, SomeIff};
+ghost use Rattle.std.specs.Prelude.{◌≡◌, ℕ, ◌≤◌, ◌<◌, ◌*◌, ◌+◌, length, nat_eq, take_while, slice_index, EachIndex, position, IsTrue, IfOk, IfSome, SomeIff};
 ghost use Rattle.std.specs.List.{starts_with};
 ghost use Rattle.std.specs.Char.{is_ascii_digit, digit_value};
 ghost use Rattle.std.specs.Str.Parse.{digits_value};
+ghost use Rattle.mage_lex.specs.Limits.{NUMBER_LIMIT};
 ghost use Rattle.mage_lex.specs.Bytes.{is_blank, is_in_line, is_letter, is_in_word};
 ghost use Rattle.mage_lex.specs.Symbols.{symbol_row, symbol_bytes};
 ghost use Rattle.mage_lex.specs.Tokens.{front_of, size_of, word_of, number_from, number_of, symbol_of};
@@ -13,8 +14,8 @@ use crate::{LangKind, Text, TokenKind};
 use mage_base::Memory;
 use std::alloc::Global;
 
-// No number is as large.
-const NUMBER_LIMIT: u128 = 1 << 127;
+// The largest number.
+const MOST_NUMBER: u128 = u128::MAX >> 1;
 
 fn is_blank(byte: u8) -> bool
     ensures { result ≡ is_blank byte }
@@ -86,22 +87,18 @@ fn word(alloc: Global, text: &[u8]) -> Result<Piece, Memory>
 // The number with one more digit, if it is below the limit.
 fn with_digit(value: u128, digit: u8) -> Option<u128>
     requires { IsTrue (is_ascii_digit digit) }
-    ensures { let next = value * 10 + digit_value digit in SomeIff result (next < 2 ^ 127) next }
+    ensures { let next = value * 10 + digit_value digit in SomeIff result (next < NUMBER_LIMIT) next }
 {
     let next = value
         .checked_mul(10)?
         .checked_add(u128::from(digit - b'0'))?;
-    if next < NUMBER_LIMIT {
-        Some(next)
-    } else {
-        None
-    }
+    (next <= MOST_NUMBER).then_some(next)
 }
 
 // The number that the digits write, if it is below the limit.
 fn value_of(digits: &[u8]) -> Option<u128>
     requires { EachIndex digits.now (λ k. IsTrue (is_ascii_digit (slice_index digits.now k))) }
-    ensures { let value = digits_value 10 digits.now in SomeIff result (value < 2 ^ 127) value }
+    ensures { let value = digits_value 10 digits.now in SomeIff result (value < NUMBER_LIMIT) value }
 {
     let mut value = 0;
     for digit in digits {

@@ -2,6 +2,7 @@
 ghost use Rattle.std.specs.Prelude.{◌≡◌, ◌≤◌, ◌<◌, ◌+◌, ◌^◌, ◌↔◌, List, Result, All, length, IfOk, IfErr, OnOk, IsErrOf};
 ghost use Rattle.mage_lex.specs.declared.token.Token.{Token};
 ghost use Rattle.mage_lex.specs.declared.fault.LangFault.{LangFault};
+ghost use Rattle.mage_lex.specs.Limits.{MOST_BYTES as most_bytes};
 ghost use Rattle.mage_lex.specs.Places.{place_at};
 ghost use Rattle.mage_lex.specs.Tokens.{size_of, in_front, token_at, fault_at, piece_in_front, tokens_from, tokens_of, IsFaultOf};
 ghost use Rattle.mage_lex.specs.Laws.{IsSpelled, InOrder, GapsBetween};
@@ -12,8 +13,8 @@ use crate::place::moved;
 use crate::{LangFault, LangKind, Token, TokenKind};
 use std::alloc::Global;
 
-// The most bytes that a text may have.
-const MOST_BYTES: usize = 1_048_576;
+/// The most bytes that a text may have.
+pub const MOST_BYTES: usize = 1_048_576;
 
 /// The tokens of a text, in order.
 ///
@@ -23,7 +24,7 @@ const MOST_BYTES: usize = 1_048_576;
 pub fn lex(alloc: Global, text: &[u8]) -> Result<Vec<Token>, LangFault>
     ensures tokens { IfOk result (λ tokens. tokens_of text.now ≡ Ok tokens.items) }
     ensures fault { IfErr result (IsFaultOf (tokens_of text.now)) }
-    ensures too_long { IsErrOf result (LangFault.At LangKind.TooLong 0 0) ↔ (1048576 < length text.now) }
+    ensures too_long { IsErrOf result (LangFault.At LangKind.TooLong 0 0) ↔ (most_bytes < length text.now) }
 
     // Each token is the bytes at its place, no two of them overlap, and between them are white space and comments.
     ensures spelled { IfOk result (λ tokens. All (IsSpelled text.now) tokens.items) }
@@ -58,7 +59,7 @@ fn read_piece(
 ) -> Result<Place, LangFault>
     requires place { place ≡ place_at text.now place.start }
     requires within { place.start < length text.now }
-    requires short { length text.now ≤ 1048576 }
+    requires short { length text.now ≤ most_bytes }
     ensures place { IfOk result (λ next. next ≡ place_at text.now next.start) }
     ensures forward { IfOk result (λ next. place.start < next.start) }
     ensures within { IfOk result (λ next. next.start ≤ length text.now) }

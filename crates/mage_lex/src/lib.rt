@@ -11,7 +11,7 @@ mod token;
 mod words;
 
 pub use fault::{LangFault, LangKind};
-pub use lexer::lex;
+pub use lexer::{MOST_BYTES, lex};
 pub use token::{Text, Token, TokenKind};
 pub use words::{is_keyword, is_name, is_type_word};
 

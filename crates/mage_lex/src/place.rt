@@ -1,5 +1,6 @@
 // Lines and columns, kept along the text.
 ghost use Rattle.std.specs.Prelude.{◌≡◌, ◌≤◌, ◌<◌, ◌+◌, ◌^◌, length};
+ghost use Rattle.mage_lex.specs.Limits.{MOST_BYTES};
 ghost use Rattle.mage_lex.specs.Places.{place_at, next_place};
 
 use crate::piece::Place;
@@ -32,7 +33,7 @@ fn next_place(place: Place, byte: u8) -> Place
 pub fn moved(text: &[u8], from: Place, size: usize) -> Place
     requires from { from ≡ place_at text.now from.start }
     requires within { from.start + size ≤ length text.now }
-    requires short { length text.now ≤ 1048576 }
+    requires short { length text.now ≤ MOST_BYTES }
     ensures place { result ≡ place_at text.now (from.start + size) }
     ensures start { result.start ≡ from.start + size }
 {

@@ -1,5 +1,0 @@
-use Rattle.mage_syntax.proofs.FirstWrong as law
-use Rattle.mage_syntax.proofs.laws.stops_at_first_wrong.Goals as goal
-
-pub returns : goal.returns
-returns c tokens depth left e = law.first_wrong depth tokens left e
