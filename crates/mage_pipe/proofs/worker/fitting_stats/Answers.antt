@@ -2,7 +2,7 @@ use Rattle.std.proofs.Common.{◌≡◌, ◌∙◌, ap, sym, Ok}
 use Rattle.std.proofs.lemmas.Result.{err_from_is_err_and}
 use Rattle.mage_pipe.specs.Summary.{cost_of, unless_tight}
 use Rattle.mage_pipe.proofs.Judging.{worker_fault, worker_listed}
-use Rattle.mage_pipe.proofs.worker.worker_stats.Goals as goal
+use Rattle.mage_pipe.proofs.worker.fitting_stats.Goals as goal
 
 pub returns-in_err-list : goal.returns-in_err-list
 returns-in_err-list c =
