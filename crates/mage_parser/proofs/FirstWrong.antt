@@ -7,7 +7,8 @@ use Rattle.mage_parser.specs.declared.stop.Stop.TheVariants as stops
 use Rattle.mage_tree.specs.declared.tree.Stmt.{Stmt}
 use Rattle.mage_tree.specs.Sources.{IsSource}
 use Rattle.mage_parser.specs.Statements.{source_at}
-use Rattle.mage_tree.specs.Laws.{IsFront, Breaks, IsFirstWrong}
+use Rattle.mage_tree.specs.Laws.{IsFront, Breaks}
+use Rattle.mage_parser.specs.Laws.{IsFirstWrong}
 use Rattle.mage_parser.proofs.SoundStatements.{source_sound}
 use Rattle.mage_parser.proofs.FullStatements.{source_full}
 use Rattle.mage_parser.proofs.Machine.{Want, workers, feed, ran, ends, run}

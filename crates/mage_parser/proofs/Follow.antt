@@ -1,12 +1,14 @@
 -- The machine follows a reader: where the reader goes on, so does the machine, and where it finds a wrong token, so does the machine.
-use Rattle.std.proofs.Common.{◌≡◌, ℕ, suc, ◌<◌, ◌≤◌, Bool, true, false, List, [], ◌∷◌, ◌++◌, length, cond, refl, ap, ◌∙◌, arith}
+use Rattle.std.proofs.Common.{◌≡◌, ℕ, suc, ◌<◌, ◌≤◌, Bool, true, false, ◌&&◌, List, [], ◌∷◌, ◌++◌, length, cond, refl, ap, ◌∙◌, arith}
 use Rattle.std.specs.Prelude.{Option, None, Some, Result, Ok, Err}
 use Rattle.mage_lex.specs.declared.token.Token.{Token}
+use Rattle.mage_lex.specs.Symbols.{OPEN_PAREN}
 use Rattle.mage_tree.specs.declared.class.Class.{Class}
+use Rattle.mage_tree.specs.declared.class.Class.TheVariants as class
 use Rattle.mage_parser.specs.declared.stop.Stop.{Stop}
 use Rattle.mage_parser.specs.declared.stop.Stop.TheVariants as stops
 use Rattle.mage_tree.specs.Classes.{fits}
-use Rattle.mage_parser.specs.Reads.{◌>>=◌, begins, one, after_one}
+use Rattle.mage_parser.specs.Reads.{◌>>=◌, begins, calls, one, after_one}
 use Rattle.mage_parser.proofs.Machine.{Want, fixed, Mark, mark_class, taken, refused, may_end, step, feed, ran, ends, run, run_taken, run_refused, run_short}
 
 -- the machine takes more tokens than up to where so many are left
@@ -144,3 +146,25 @@ decides {B} c (token ∷ others) wants first second left last f g = go (fits c t
     go : (b : Bool) → fits c token ≡ b → Follows (token ∷ others) wants (cond b first second) left last
     go true is = f token others refl is
     go false is = g (λ token2 others2 e. (let same : token ≡ token2 = cc e in rw (← same) is))
+
+-- the first two tokens decide
+pub calls_decide : {B : Type 0} (c : Class) (tokens : List Token) (wants : List Want) (first second : Result B Stop) (left : B → List Token) (last : List Want) →
+    ((word bracket : Token) (others : List Token) → tokens ≡ word ∷ bracket ∷ others → fits c word ≡ true → fits (class.Symbol OPEN_PAREN) bracket ≡ true → Follows tokens wants first left last) →
+    (((word : Token) (others : List Token) → tokens ≡ word ∷ others → fits c word ≡ true → begins (class.Symbol OPEN_PAREN) others ≡ false) → Follows tokens wants second left last) →
+    Follows tokens wants (cond (calls c tokens) first second) left last
+unfolding calls begins
+calls_decide c [] wants first second left last f g = g (λ word others e w. absurd (cc))
+calls_decide {B} c (word ∷ []) wants first second left last f g = go (fits c word)
+  where
+    alone : (word2 : Token) (others : List Token) → word ∷ [] ≡ word2 ∷ others → begins (class.Symbol OPEN_PAREN) others ≡ false
+    alone word2 others e = let none : [] ≡ others = cc e in rw (← none) refl
+
+    go : (b : Bool) → Follows (word ∷ []) wants (cond (b && false) first second) left last
+    go true = g (λ word2 others e w. alone word2 others e)
+    go false = g (λ word2 others e w. alone word2 others e)
+calls_decide {B} c (word ∷ bracket ∷ rest) wants first second left last f g = go (fits c word) (fits (class.Symbol OPEN_PAREN) bracket) refl refl
+  where
+    go : (b o : Bool) → fits c word ≡ b → fits (class.Symbol OPEN_PAREN) bracket ≡ o → Follows (word ∷ bracket ∷ rest) wants (cond (b && o) first second) left last
+    go true true w h = f word bracket rest refl w h
+    go true false w h = g (λ word2 others e w2. (let same : bracket ∷ rest ≡ others = cc e in rw (← same) h))
+    go false o w h = g (λ word2 others e w2. absurd (let same : word ≡ word2 = cc e in let both : fits c word ≡ true = rw same w2 in cc (both, w)))

@@ -1,5 +1,5 @@
 -- The machine follows the readers of expressions.
-use Rattle.std.proofs.Common.{◌≡◌, ℕ, zero, suc, ◌≤◌, ◌<◌, true, false, List, [], ◌∷◌, length, refl, ap, sym, ◌∙◌, append_assoc, arith}
+use Rattle.std.proofs.Common.{◌≡◌, ℕ, zero, suc, ◌≤◌, ◌<◌, Bool, true, false, List, [], ◌∷◌, length, refl, ap, sym, ◌∙◌, append_assoc, arith}
 use Rattle.std.specs.Prelude.{Option, None, Some, Ok}
 use Rattle.mage_lex.specs.Symbols.{OPEN_PAREN, OPEN_BRACKET, NOT}
 use Rattle.mage_lex.specs.declared.token.Token.{Token}
@@ -9,16 +9,16 @@ use Rattle.mage_tree.specs.declared.class.Keyword.TheVariants as keyword
 use Rattle.mage_tree.specs.declared.tree.ConstExpr.{ConstExpr}
 use Rattle.mage_tree.specs.declared.tree.Expr.{Expr}
 use Rattle.mage_tree.specs.Classes.{fits}
-use Rattle.mage_parser.specs.Reads.{Read, operands}
+use Rattle.mage_parser.specs.Reads.{Read, begins, operands}
 use Rattle.mage_tree.specs.Grammar.{operators, is_listed}
 use Rattle.mage_parser.specs.Constants.{const_in, const_at}
-use Rattle.mage_parser.specs.Expressions.{bracketed as bracketed_at, index_at, item_at, lit_at, resize_at, mux_at, paren_at, not_at, place_at, unary_at, chain_at, shift_at, compare_from, compare_at, level_at, expr_from, expr_in, expr_at}
+use Rattle.mage_parser.specs.Expressions.{bracketed as bracketed_at, index_at, item_at, lit_at, resize_at, mux_at, paren_at, not_at, place_at, choose_at, count_at, name_at, unary_at, chain_at, shift_at, compare_from, compare_at, level_at, expr_from, expr_in, expr_at}
 use Rattle.mage_parser.proofs.Sound.{const_sound}
 use Rattle.mage_parser.proofs.SoundExpressions.{expr_sound}
 use Rattle.mage_parser.proofs.FullConstants.{const_shrinks}
-use Rattle.mage_parser.proofs.FullExpressions.{expr_shrinks}
-use Rattle.mage_parser.proofs.Machine.{Want, constant, expression, expression_tail, index, bracketed, fixed, open_paren, close_paren, close_bracket, comma, a_type, taken, passed, refused, below, then_also, started, expr_start, tail_of, step, feed, moved, run, run_taken, run_end, run_short}
-use Rattle.mage_parser.proofs.Follow.{Follows, goes_on, after, along, read_on, one_taken, one_or_refused, one_fixed, after_fixed, decides}
+use Rattle.mage_parser.proofs.FullExpressions.{choosing_named, counting_named, counting_apart, expr_shrinks}
+use Rattle.mage_parser.proofs.Machine.{Want, constant, expression, expression_tail, index, choosing_rest, counting_rest, name_rest, bracketed, may_end, fixed, open_paren, close_paren, close_bracket, comma, a_type, taken, passed, refused, below, then_also, started, expr_start, tail_of, step, feed, moved, run, run_taken, run_end, run_short}
+use Rattle.mage_parser.proofs.Follow.{Follows, goes_on, after, along, read_on, one_taken, after_taken, one_or_refused, one_fixed, after_fixed, decides, calls_decide}
 use Rattle.mage_parser.proofs.FollowConstants.{run_lets, const_in_follows, const_follows}
 
 index_taken : (token : Token) → fits (class.Symbol OPEN_BRACKET) token ≡ true → step index token ≡ taken (constant 3 ∷ fixed close_bracket ∷ [])
@@ -79,9 +79,18 @@ start_not : (token : Token) → fits (class.Symbol NOT) token ≡ true → step 
 unfolding step expr_start
 start_not token a = rw a
 
-start_name : (token : Token) → fits (class.Symbol NOT) token ≡ false → fits class.Name token ≡ true → step (expression 0) token ≡ taken (index ∷ [])
+start_name : (token : Token) → fits (class.Symbol NOT) token ≡ false → fits class.Name token ≡ true →
+    step (expression 0) token ≡ taken (name_rest (fits class.Choosing token) (fits class.Counting token) ∷ [])
 unfolding step expr_start
 start_name token a b = rw (a, b)
+
+start_choosing : (token : Token) → fits (class.Symbol NOT) token ≡ false → fits class.Choosing token ≡ true → step (expression 0) token ≡ taken (choosing_rest ∷ [])
+start_choosing token a c = start_name token a (choosing_named token c) ∙ ap (λ b. taken (name_rest b (fits class.Counting token) ∷ [])) c
+
+start_counting : (token : Token) → fits (class.Symbol NOT) token ≡ false → fits class.Counting token ≡ true → step (expression 0) token ≡ taken (counting_rest ∷ [])
+start_counting token a c =
+    start_name token a (counting_named token c) ∙ ap (λ b. taken (name_rest b (fits class.Counting token) ∷ [])) (counting_apart token c)
+    ∙ ap (λ b. taken (name_rest false b ∷ [])) c
 
 start_lit : (token : Token) → fits (class.Symbol NOT) token ≡ false → fits class.Name token ≡ false → fits (class.Word keyword.Lit) token ≡ true →
     step (expression 0) token ≡ taken (fixed a_type ∷ fixed open_paren ∷ constant 3 ∷ fixed close_paren ∷ [])
@@ -115,18 +124,86 @@ not_follows deeper deep tokens rest token others e a =
     one_taken (class.Symbol NOT) (expression 0) rest (expression 0 ∷ []) tokens token others _ _ _ e a (start_not token a)
     (read_on others (expression 0 ∷ rest) rest (deeper 0 tokens) after _ _ _ (deep 0 nothing tokens token others e rest) (λ operand i. refl))
 
-item_behind : (room : ℕ) (tokens : List Token) (rest : List Want) (token : Token) (others : List Token) → tokens ≡ token ∷ others → fits class.Name token ≡ true →
-    step (expression 0) token ≡ taken (index ∷ []) → Follows tokens (expression 0 ∷ rest) (item_at room tokens) after rest
+-- a name and its index, where the machine wants behind the name what `want` says
+item_behind : (room : ℕ) (tokens : List Token) (rest : List Want) (token : Token) (others : List Token) (want : Want) → tokens ≡ token ∷ others → fits class.Name token ≡ true →
+    step (expression 0) token ≡ taken (want ∷ []) → Follows others (want ∷ rest) (index_at room others) after rest → Follows tokens (expression 0 ∷ rest) (item_at room tokens) after rest
 unfolding item_at
-item_behind room tokens rest token others e b s =
-    one_taken class.Name (expression 0) rest (index ∷ []) tokens token others _ _ _ e b s
-    (read_on others (index ∷ rest) rest (index_at room others) after _ _ _ (index_follows room others rest) (λ found i. refl))
+item_behind room tokens rest token others want e b s h =
+    one_taken class.Name (expression 0) rest (want ∷ []) tokens token others _ _ _ e b s
+    (read_on others (want ∷ rest) rest (index_at room others) after _ _ _ h (λ found i. refl))
 
-place_follows : (room : ℕ) (tokens : List Token) (rest : List Want) (token : Token) (others : List Token) → tokens ≡ token ∷ others → fits class.Name token ≡ true →
-    step (expression 0) token ≡ taken (index ∷ []) → Follows tokens (expression 0 ∷ rest) (place_at room tokens) after rest
+place_follows : (room : ℕ) (tokens : List Token) (rest : List Want) (token : Token) (others : List Token) (want : Want) → tokens ≡ token ∷ others → fits class.Name token ≡ true →
+    step (expression 0) token ≡ taken (want ∷ []) → Follows others (want ∷ rest) (index_at room others) after rest → Follows tokens (expression 0 ∷ rest) (place_at room tokens) after rest
 unfolding place_at
-place_follows room tokens rest token others e b s =
-    read_on tokens (expression 0 ∷ rest) rest (item_at room tokens) after _ _ _ (item_behind room tokens rest token others e b s) (λ item i. refl)
+place_follows room tokens rest token others want e b s h =
+    read_on tokens (expression 0 ∷ rest) rest (item_at room tokens) after _ _ _ (item_behind room tokens rest token others want e b s h) (λ item i. refl)
+
+-- behind a call's word that no `(` follows the machine moves as behind a name
+rest_run : (want : Want) (tokens : List Token) (rest : List Want) → may_end want ≡ true →
+    ((token : Token) → fits (class.Symbol OPEN_PAREN) token ≡ false → step want token ≡ step index token) → begins (class.Symbol OPEN_PAREN) tokens ≡ false →
+    run tokens (want ∷ rest) ≡ run tokens (index ∷ rest)
+unfolding run feed begins
+rest_run want [] rest m alike b = run_end want rest m ∙ sym (run_end index rest refl)
+rest_run want (token ∷ others) rest m alike b = rw (alike token b) refl
+
+choosing_alike : (token : Token) → fits (class.Symbol OPEN_PAREN) token ≡ false → step choosing_rest token ≡ step index token
+unfolding step
+choosing_alike token b = rw b refl
+
+counting_alike : (token : Token) → fits (class.Symbol OPEN_PAREN) token ≡ false → step counting_rest token ≡ step index token
+unfolding step
+counting_alike token b = rw b refl
+
+rest_follows : (room : ℕ) (others : List Token) (rest : List Want) (choosing counting : Bool) → (choosing ≡ true → begins (class.Symbol OPEN_PAREN) others ≡ false) →
+    (counting ≡ true → begins (class.Symbol OPEN_PAREN) others ≡ false) → Follows others (name_rest choosing counting ∷ rest) (index_at room others) after rest
+rest_follows room others rest true counting a b =
+    along others others (choosing_rest ∷ rest) (index ∷ rest) _ _ _ (rest_run choosing_rest others rest refl choosing_alike (a refl)) (index_follows room others rest)
+rest_follows room others rest false true a b =
+    along others others (counting_rest ∷ rest) (index ∷ rest) _ _ _ (rest_run counting_rest others rest refl counting_alike (b refl)) (index_follows room others rest)
+rest_follows room others rest false false a b = index_follows room others rest
+
+choosing_opens : (token : Token) → fits (class.Symbol OPEN_PAREN) token ≡ true → step choosing_rest token ≡ taken (expression 7 ∷ fixed comma ∷ expression 7 ∷ fixed close_paren ∷ [])
+unfolding step
+choosing_opens token a = rw a
+
+counting_opens : (token : Token) → fits (class.Symbol OPEN_PAREN) token ≡ true → step counting_rest token ≡ taken (expression 7 ∷ fixed close_paren ∷ [])
+unfolding step
+counting_opens token a = rw a
+
+choose_follows : (deeper : ℕ → List Token → Read Expr) → FollowsIn deeper → (tokens : List Token) (rest : List Want) (word bracket : Token) (others : List Token) → tokens ≡ word ∷ bracket ∷ others →
+    fits class.Choosing word ≡ true → fits (class.Symbol OPEN_PAREN) bracket ≡ true → step (expression 0) word ≡ taken (choosing_rest ∷ []) → Follows tokens (expression 0 ∷ rest) (choose_at deeper tokens) after rest
+unfolding choose_at
+choose_follows deeper deep tokens rest word bracket others e c o s =
+    one_taken class.Choosing (expression 0) rest (choosing_rest ∷ []) tokens word (bracket ∷ others) _ _ _ e c s
+    (after_taken (class.Symbol OPEN_PAREN) choosing_rest rest (expression 7 ∷ fixed comma ∷ expression 7 ∷ fixed close_paren ∷ []) (bracket ∷ others) bracket others _ _ _ refl o (choosing_opens bracket o)
+    (read_on others (expression 7 ∷ fixed comma ∷ expression 7 ∷ fixed close_paren ∷ rest) (fixed comma ∷ expression 7 ∷ fixed close_paren ∷ rest) (deeper 7 (bracket ∷ others)) after _ _ _
+    (deep 7 seven (bracket ∷ others) bracket others refl (fixed comma ∷ expression 7 ∷ fixed close_paren ∷ rest))
+    (λ first p. after_fixed comma (expression 7 ∷ fixed close_paren ∷ rest) first.1 _ _ _ (λ sign r4 e4 i4.
+    read_on r4 (expression 7 ∷ fixed close_paren ∷ rest) (fixed close_paren ∷ rest) (deeper 7 first.1) after _ _ _
+    (deep 7 seven first.1 sign r4 e4 (fixed close_paren ∷ rest))
+    (λ second q. after_fixed close_paren rest second.1 _ _ _ (λ close_token last f shut. refl))))))
+
+count_follows : (deeper : ℕ → List Token → Read Expr) → FollowsIn deeper → (tokens : List Token) (rest : List Want) (word bracket : Token) (others : List Token) → tokens ≡ word ∷ bracket ∷ others →
+    fits class.Counting word ≡ true → fits (class.Symbol OPEN_PAREN) bracket ≡ true → step (expression 0) word ≡ taken (counting_rest ∷ []) → Follows tokens (expression 0 ∷ rest) (count_at deeper tokens) after rest
+unfolding count_at
+count_follows deeper deep tokens rest word bracket others e c o s =
+    one_taken class.Counting (expression 0) rest (counting_rest ∷ []) tokens word (bracket ∷ others) _ _ _ e c s
+    (after_taken (class.Symbol OPEN_PAREN) counting_rest rest (expression 7 ∷ fixed close_paren ∷ []) (bracket ∷ others) bracket others _ _ _ refl o (counting_opens bracket o)
+    (read_on others (expression 7 ∷ fixed close_paren ∷ rest) (fixed close_paren ∷ rest) (deeper 7 (bracket ∷ others)) after _ _ _
+    (deep 7 seven (bracket ∷ others) bracket others refl (fixed close_paren ∷ rest))
+    (λ operand p. after_fixed close_paren rest operand.1 _ _ _ (λ close_token last f shut. refl))))
+
+-- what begins with a name
+name_follows : (deeper : ℕ → List Token → Read Expr) → FollowsIn deeper → (room : ℕ) (tokens : List Token) (rest : List Want) (token : Token) (others : List Token) → tokens ≡ token ∷ others →
+    ((first : Token) (more : List Token) → tokens ≡ first ∷ more → fits (class.Symbol NOT) first ≡ false) → fits class.Name token ≡ true → Follows tokens (expression 0 ∷ rest) (name_at deeper room tokens) after rest
+unfolding name_at
+name_follows deeper deep room tokens rest token others e n is =
+    calls_decide class.Choosing tokens _ _ _ _ _
+    (λ word bracket more d c o. choose_follows deeper deep tokens rest word bracket more d c o (start_choosing word (n word (bracket ∷ more) d) c)) (λ no_choice.
+    calls_decide class.Counting tokens _ _ _ _ _
+    (λ word bracket more d c o. count_follows deeper deep tokens rest word bracket more d c o (start_counting word (n word (bracket ∷ more) d) c)) (λ no_count.
+    place_follows room tokens rest token others (name_rest (fits class.Choosing token) (fits class.Counting token)) e is (start_name token (n token others e) is)
+    (rest_follows room others rest (fits class.Choosing token) (fits class.Counting token) (λ c. no_choice token others e c) (λ c. no_count token others e c))))
 
 lit_follows : (room : ℕ) (tokens : List Token) (rest : List Want) (token : Token) (others : List Token) → tokens ≡ token ∷ others → fits (class.Word keyword.Lit) token ≡ true →
     step (expression 0) token ≡ taken (fixed a_type ∷ fixed open_paren ∷ constant 3 ∷ fixed close_paren ∷ []) → Follows tokens (expression 0 ∷ rest) (lit_at room tokens) after rest
@@ -171,7 +248,7 @@ unary_follows : (deeper : ℕ → List Token → Read Expr) → FollowsIn deeper
 unfolding unary_at paren_at
 unary_follows deeper deep room tokens rest =
     decides (class.Symbol NOT) tokens _ _ _ _ _ (λ token others e a. not_follows deeper deep tokens rest token others e a) (λ n1.
-    decides class.Name tokens _ _ _ _ _ (λ token others e a. place_follows room tokens rest token others e a (start_name token (n1 token others e) a)) (λ n2.
+    decides class.Name tokens _ _ _ _ _ (λ token others e a. name_follows deeper deep room tokens rest token others e n1 a) (λ n2.
     decides (class.Word keyword.Lit) tokens _ _ _ _ _ (λ token others e a. lit_follows room tokens rest token others e a (start_lit token (n1 token others e) (n2 token others e) a)) (λ n3.
     decides (class.Word keyword.Resize) tokens _ _ _ _ _ (λ token others e a. resize_follows deeper deep tokens rest token others e a (start_resize token (n1 token others e) (n2 token others e) (n3 token others e) a)) (λ n4.
     decides (class.Word keyword.Mux) tokens _ _ _ _ _ (λ token others e a. mux_follows deeper deep tokens rest token others e a (start_mux token (n1 token others e) (n2 token others e) (n3 token others e) (n4 token others e) a)) (λ n5.
@@ -203,6 +280,8 @@ listed_tail class.Number level h = refl
 listed_tail class.Name level h = refl
 listed_tail class.Type level h = refl
 listed_tail class.Party level h = refl
+listed_tail class.Choosing level h = refl
+listed_tail class.Counting level h = refl
 listed_tail class.Adding level h = refl
 listed_tail class.Scaling level h = refl
 listed_tail class.Shifting level h = absurd (cc)

@@ -1,7 +1,7 @@
 -- An expression of the grammar is read, whatever follows that doesn't continue it.
-use Rattle.std.proofs.Common.{◌≡◌, ℕ, zero, suc, ◌≤◌, ◌<◌, true, false, List, [], ◌∷◌, length, refl, ◌∙◌, arith}
+use Rattle.std.proofs.Common.{◌≡◌, ℕ, zero, suc, ◌≤◌, ◌<◌, Bool, true, false, ◌&&◌, List, [], ◌∷◌, length, refl, ap, sym, ◌∙◌, arith}
 use Rattle.std.specs.Prelude.{Option, None, Some, Ok}
-use Rattle.mage_lex.specs.Symbols.{SEMICOLON, COMMA, OPEN_PAREN, CLOSE_PAREN, OPEN_BRACKET, CLOSE_BRACKET, TIMES, AND, XOR, OR, NOT}
+use Rattle.mage_lex.specs.Symbols.{SEMICOLON, COMMA, OPEN_PAREN, CLOSE_PAREN, OPEN_BRACKET, CLOSE_BRACKET, AND, XOR, OR, NOT}
 use Rattle.mage_lex.specs.declared.token.Token.{Token}
 use Rattle.mage_lex.specs.declared.token.TokenKind.TheVariants as kinds
 use Rattle.mage_lex.specs.Words as words
@@ -9,50 +9,63 @@ use Rattle.mage_tree.specs.declared.class.Class.{Class}
 use Rattle.mage_tree.specs.declared.class.Class.TheVariants as class
 use Rattle.mage_tree.specs.declared.class.Keyword.{Keyword}
 use Rattle.mage_tree.specs.declared.class.Keyword.TheVariants as keyword
+use Rattle.mage_tree.specs.declared.class.Callable.TheVariants as callable
 use Rattle.mage_tree.specs.declared.tree.ConstExpr.{ConstExpr}
 use Rattle.mage_tree.specs.declared.tree.Expr.{Expr}
 use Rattle.mage_tree.specs.declared.tree.Expr.TheVariants as expr
 use Rattle.mage_tree.specs.declared.tree.Item.{Item}
-use Rattle.mage_tree.specs.Classes.{text_of, fits}
-use Rattle.mage_parser.specs.Reads.{Read, begins, operands}
+use Rattle.mage_tree.specs.Classes.{text_of, call_text, fits}
+use Rattle.mage_parser.specs.Reads.{Read, begins, calls, operands}
 use Rattle.mage_tree.specs.Grammar.{Is, IsIndex, IsItem, AreAmounts, IsExpr, AreExprs, operators, is_listed, item_of}
 use Rattle.mage_parser.specs.Constants.{const_at}
-use Rattle.mage_parser.specs.Expressions.{bracketed, index_at, item_at, lit_at, resize_at, mux_at, paren_at, not_at, place_at, unary_at, chain_at, shift_at, compare_from, compare_at, level_at, expr_from, expr_in, expr_at}
-use Rattle.mage_tree.proofs.Apart.{apart, fits_kind, name_apart}
+use Rattle.mage_parser.specs.Expressions.{bracketed, index_at, item_at, lit_at, resize_at, mux_at, paren_at, not_at, place_at, choose_at, count_at, name_at, unary_at, chain_at, shift_at, compare_from, compare_at, level_at, expr_from, expr_in, expr_at}
+use Rattle.mage_tree.proofs.Apart.{Kinds, apart, by_kind, each_kind, fits_kind, name_apart}
 use Rattle.mage_parser.proofs.Fronts.{operands_none}
 use Rattle.mage_parser.proofs.FullConstants.{begins_is, begins_not, one_is, after_is, ConstEnds, const_full, const_shrinks, const_in_is, operands_step}
 
 -- what follows doesn't continue an expression of this level
 abbrev pub ExprEnds : ℕ → List Token → Type 0
-ExprEnds zero after = begins (class.Symbol OPEN_BRACKET) after ≡ false
+ExprEnds zero after = (begins (class.Symbol OPEN_BRACKET) after ≡ false) × (begins (class.Symbol OPEN_PAREN) after ≡ false)
 ExprEnds (suc level) after = ExprEnds level after × (begins (operators (suc level)) after ≡ false)
 
 lower_ends : (level : ℕ) (after : List Token) → ExprEnds (suc level) after → ExprEnds level after
 lower_ends level after h = h.0
 
-place_ends : (level : ℕ) (after : List Token) → ExprEnds level after → begins (class.Symbol OPEN_BRACKET) after ≡ false
+place_ends : (level : ℕ) (after : List Token) → ExprEnds level after → ExprEnds 0 after
 place_ends zero after h = h
 place_ends (suc level) after h = place_ends level after h.0
 
 -- an operator of a level ends the levels below
 operator_ends : (level : ℕ) (op : Token) (rest : List Token) → level < 7 → Is (operators (suc level)) op → ExprEnds level (op ∷ rest)
-operator_ends zero op rest h is = begins_not (class.Symbol OPEN_BRACKET) op rest (apart (class.Symbol TIMES) (class.Symbol OPEN_BRACKET) refl _ is)
+operator_ends zero op rest h is = (
+  begins_not (class.Symbol OPEN_BRACKET) op rest (apart class.Scaling (class.Symbol OPEN_BRACKET) (refl, refl, refl) _ is),
+  begins_not (class.Symbol OPEN_PAREN) op rest (apart class.Scaling (class.Symbol OPEN_PAREN) (refl, refl, refl) _ is),
+)
 operator_ends (suc zero) op rest h is = (
-  begins_not (class.Symbol OPEN_BRACKET) op rest (apart class.Adding (class.Symbol OPEN_BRACKET) (refl, refl) _ is),
-  begins_not (class.Symbol TIMES) op rest (apart class.Adding (class.Symbol TIMES) (refl, refl) _ is),
+  (
+    begins_not (class.Symbol OPEN_BRACKET) op rest (apart class.Adding (class.Symbol OPEN_BRACKET) (refl, refl) _ is),
+    begins_not (class.Symbol OPEN_PAREN) op rest (apart class.Adding (class.Symbol OPEN_PAREN) (refl, refl) _ is),
+  ),
+  begins_not class.Scaling op rest (apart class.Adding class.Scaling (refl, refl) _ is),
 )
 operator_ends (suc (suc zero)) op rest h is = (
   (
-    begins_not (class.Symbol OPEN_BRACKET) op rest (apart class.Shifting (class.Symbol OPEN_BRACKET) (refl, refl) _ is),
-    begins_not (class.Symbol TIMES) op rest (apart class.Shifting (class.Symbol TIMES) (refl, refl) _ is),
+    (
+      begins_not (class.Symbol OPEN_BRACKET) op rest (apart class.Shifting (class.Symbol OPEN_BRACKET) (refl, refl) _ is),
+      begins_not (class.Symbol OPEN_PAREN) op rest (apart class.Shifting (class.Symbol OPEN_PAREN) (refl, refl) _ is),
+    ),
+    begins_not class.Scaling op rest (apart class.Shifting class.Scaling (refl, refl) _ is),
   ),
   begins_not class.Adding op rest (apart class.Shifting class.Adding (refl, refl) _ is),
 )
 operator_ends (suc (suc (suc zero))) op rest h is = (
   (
     (
-      begins_not (class.Symbol OPEN_BRACKET) op rest (apart (class.Symbol AND) (class.Symbol OPEN_BRACKET) refl _ is),
-      begins_not (class.Symbol TIMES) op rest (apart (class.Symbol AND) (class.Symbol TIMES) refl _ is),
+      (
+        begins_not (class.Symbol OPEN_BRACKET) op rest (apart (class.Symbol AND) (class.Symbol OPEN_BRACKET) refl _ is),
+        begins_not (class.Symbol OPEN_PAREN) op rest (apart (class.Symbol AND) (class.Symbol OPEN_PAREN) refl _ is),
+      ),
+      begins_not class.Scaling op rest (apart (class.Symbol AND) class.Scaling refl _ is),
     ),
     begins_not class.Adding op rest (apart (class.Symbol AND) class.Adding refl _ is),
   ),
@@ -62,8 +75,11 @@ operator_ends (suc (suc (suc (suc zero)))) op rest h is = (
   (
     (
       (
-        begins_not (class.Symbol OPEN_BRACKET) op rest (apart (class.Symbol XOR) (class.Symbol OPEN_BRACKET) refl _ is),
-        begins_not (class.Symbol TIMES) op rest (apart (class.Symbol XOR) (class.Symbol TIMES) refl _ is),
+        (
+          begins_not (class.Symbol OPEN_BRACKET) op rest (apart (class.Symbol XOR) (class.Symbol OPEN_BRACKET) refl _ is),
+          begins_not (class.Symbol OPEN_PAREN) op rest (apart (class.Symbol XOR) (class.Symbol OPEN_PAREN) refl _ is),
+        ),
+        begins_not class.Scaling op rest (apart (class.Symbol XOR) class.Scaling refl _ is),
       ),
       begins_not class.Adding op rest (apart (class.Symbol XOR) class.Adding refl _ is),
     ),
@@ -76,8 +92,11 @@ operator_ends (suc (suc (suc (suc (suc zero))))) op rest h is = (
     (
       (
         (
-          begins_not (class.Symbol OPEN_BRACKET) op rest (apart (class.Symbol OR) (class.Symbol OPEN_BRACKET) refl _ is),
-          begins_not (class.Symbol TIMES) op rest (apart (class.Symbol OR) (class.Symbol TIMES) refl _ is),
+          (
+            begins_not (class.Symbol OPEN_BRACKET) op rest (apart (class.Symbol OR) (class.Symbol OPEN_BRACKET) refl _ is),
+            begins_not (class.Symbol OPEN_PAREN) op rest (apart (class.Symbol OR) (class.Symbol OPEN_PAREN) refl _ is),
+          ),
+          begins_not class.Scaling op rest (apart (class.Symbol OR) class.Scaling refl _ is),
         ),
         begins_not class.Adding op rest (apart (class.Symbol OR) class.Adding refl _ is),
       ),
@@ -93,8 +112,11 @@ operator_ends (suc (suc (suc (suc (suc (suc zero)))))) op rest h is = (
       (
         (
           (
-            begins_not (class.Symbol OPEN_BRACKET) op rest (apart class.Comparing (class.Symbol OPEN_BRACKET) (refl, refl) _ is),
-            begins_not (class.Symbol TIMES) op rest (apart class.Comparing (class.Symbol TIMES) (refl, refl) _ is),
+            (
+              begins_not (class.Symbol OPEN_BRACKET) op rest (apart class.Comparing (class.Symbol OPEN_BRACKET) (refl, refl) _ is),
+              begins_not (class.Symbol OPEN_PAREN) op rest (apart class.Comparing (class.Symbol OPEN_PAREN) (refl, refl) _ is),
+            ),
+            begins_not class.Scaling op rest (apart class.Comparing class.Scaling (refl, refl) _ is),
           ),
           begins_not class.Adding op rest (apart class.Comparing class.Adding (refl, refl) _ is),
         ),
@@ -109,19 +131,22 @@ operator_ends (suc (suc (suc (suc (suc (suc zero)))))) op rest h is = (
 operator_ends (suc (suc (suc (suc (suc (suc (suc level))))))) op rest h is = absurd (omega arith)
 
 -- what stands behind an expression ends it
-closing_ends : (row : ℕ) → fits_kind (class.Symbol OPEN_BRACKET) (kinds.Symbol row) ≡ false → fits_kind (class.Symbol TIMES) (kinds.Symbol row) ≡ false →
+closing_ends : (row : ℕ) → fits_kind (class.Symbol OPEN_BRACKET) (kinds.Symbol row) ≡ false → fits_kind (class.Symbol OPEN_PAREN) (kinds.Symbol row) ≡ false → fits_kind class.Scaling (kinds.Symbol row) ≡ false →
     fits_kind class.Adding (kinds.Symbol row) ≡ false → fits_kind class.Shifting (kinds.Symbol row) ≡ false → fits_kind (class.Symbol AND) (kinds.Symbol row) ≡ false →
     fits_kind (class.Symbol XOR) (kinds.Symbol row) ≡ false → fits_kind (class.Symbol OR) (kinds.Symbol row) ≡ false → fits_kind class.Comparing (kinds.Symbol row) ≡ false →
     (token : Token) (rest : List Token) → Is (class.Symbol row) token → ExprEnds 7 (token ∷ rest)
-closing_ends row a b c d e f g h token rest is = (
+closing_ends row a p b c d e f g h token rest is = (
   (
     (
       (
         (
           (
             (
-              begins_not (class.Symbol OPEN_BRACKET) token rest (apart (class.Symbol row) (class.Symbol OPEN_BRACKET) a _ is),
-              begins_not (class.Symbol TIMES) token rest (apart (class.Symbol row) (class.Symbol TIMES) b _ is),
+              (
+                begins_not (class.Symbol OPEN_BRACKET) token rest (apart (class.Symbol row) (class.Symbol OPEN_BRACKET) a _ is),
+                begins_not (class.Symbol OPEN_PAREN) token rest (apart (class.Symbol row) (class.Symbol OPEN_PAREN) p _ is),
+              ),
+              begins_not class.Scaling token rest (apart (class.Symbol row) class.Scaling b _ is),
             ),
             begins_not class.Adding token rest (apart (class.Symbol row) class.Adding c _ is),
           ),
@@ -137,13 +162,13 @@ closing_ends row a b c d e f g h token rest is = (
 )
 
 pub paren_ends : (token : Token) (rest : List Token) → Is (class.Symbol CLOSE_PAREN) token → ExprEnds 7 (token ∷ rest)
-paren_ends = closing_ends 8 refl refl refl refl refl refl refl refl
+paren_ends = closing_ends CLOSE_PAREN refl refl refl refl refl refl refl refl refl
 
 pub comma_ends : (token : Token) (rest : List Token) → Is (class.Symbol COMMA) token → ExprEnds 7 (token ∷ rest)
-comma_ends = closing_ends 6 refl refl refl refl refl refl refl refl
+comma_ends = closing_ends COMMA refl refl refl refl refl refl refl refl refl
 
 pub semicolon_ends : (token : Token) (rest : List Token) → Is (class.Symbol SEMICOLON) token → ExprEnds 7 (token ∷ rest)
-semicolon_ends = closing_ends 4 refl refl refl refl refl refl refl refl
+semicolon_ends = closing_ends SEMICOLON refl refl refl refl refl refl refl refl refl
 
 -- a symbol that ends a constant
 pub const_closing : (row : ℕ) → fits_kind class.Scaling (kinds.Symbol row) ≡ false → fits_kind class.Adding (kinds.Symbol row) ≡ false →
@@ -160,7 +185,7 @@ bracketed_full {after = after} (IsIndex.present {room = room} {open_token = open
     rw (
       one_is (class.Symbol OPEN_BRACKET) open_token before is,
       const_in_is room 3 open_token before,
-      const_full d (omega arith) (const_closing 10 refl refl close_token after shut),
+      const_full d (omega arith) (const_closing CLOSE_BRACKET refl refl close_token after shut),
       after_is (class.Symbol CLOSE_BRACKET) close_token after shut,
     )
 
@@ -206,6 +231,8 @@ mutual
   expr_shrinks (IsExpr.lit w t o d shut) = let h = const_shrinks d in omega (arith, h)
   expr_shrinks (IsExpr.resize w t o d shut) = let h = expr_shrinks d in omega (arith, h)
   expr_shrinks (IsExpr.mux w o a p b q c shut) = let h = expr_shrinks a in let k = expr_shrinks b in let l = expr_shrinks c in omega (arith, h, k, l)
+  expr_shrinks (IsExpr.choose w o a p b shut) = let h = expr_shrinks a in let k = expr_shrinks b in omega (arith, h, k)
+  expr_shrinks (IsExpr.count w o a shut) = let h = expr_shrinks a in omega (arith, h)
   expr_shrinks (IsExpr.«not» is d) = let h = expr_shrinks d in omega (arith, h)
   expr_shrinks (IsExpr.alone d) = expr_shrinks d
   expr_shrinks (IsExpr.chain l d r) = let h = expr_shrinks d in let k = exprs_shrink r in omega (arith, h, k)
@@ -249,11 +276,90 @@ at_more room level tokens = refl
 name_no : (word : Keyword) → words.is_name (text_of word) ≡ false → (token : Token) → Is class.Name token → fits (class.Word word) token ≡ false
 name_no word h token is = apart class.Name (class.Word word) (λ text e. name_apart word h text e) token is
 
-unary_item : (room : ℕ) (place : Item) (token : Token) (before after : List Token) → Is class.Name token → item_at room (token ∷ before) ≡ Ok (place, after) →
-    unary_at (expr_in room) room (token ∷ before) ≡ Ok (expr.Item place, after)
-unfolding unary_at place_at
-unary_item room place token before after is d =
-    rw (begins_not (class.Symbol NOT) token before (apart class.Name (class.Symbol NOT) (λ text e. refl) _ is), begins_is class.Name token before is, d)
+-- the words of calls are names elsewhere
+call_named : (words.is_name (call_text callable.Min) ≡ true) × (words.is_name (call_text callable.Max) ≡ true) × (words.is_name (call_text callable.Count) ≡ true)
+unfolding call_text words.is_keyword
+call_named = (refl, refl, refl)
+
+within : (c d : Class) → Kinds c (λ kind. fits_kind d kind ≡ true) → (token : Token) → Is c token → Is d token
+within c d h token is = by_kind d token ∙ each_kind c token.kind (λ kind. fits_kind d kind ≡ true) h (sym (by_kind c token) ∙ is)
+
+pub choosing_named : (token : Token) → Is class.Choosing token → Is class.Name token
+choosing_named token is = within class.Choosing class.Name (call_named.0, call_named.1) token is
+
+pub counting_named : (token : Token) → Is class.Counting token → Is class.Name token
+counting_named token is = within class.Counting class.Name call_named.2 token is
+
+pub counting_apart : (token : Token) → Is class.Counting token → fits class.Choosing token ≡ false
+unfolding call_text
+counting_apart token is = apart class.Counting class.Choosing refl token is
+
+calls_is : (c : Class) (word open_token : Token) (rest : List Token) → Is c word → Is (class.Symbol OPEN_PAREN) open_token → calls c (word ∷ open_token ∷ rest) ≡ true
+unfolding calls begins
+calls_is c word open_token rest w o = rw (w, o) refl
+
+neither : (b : Bool) → (b && false) ≡ false
+neither true = refl
+neither false = refl
+
+calls_not : (c : Class) (word : Token) (rest : List Token) → begins (class.Symbol OPEN_PAREN) rest ≡ false → calls c (word ∷ rest) ≡ false
+unfolding calls
+calls_not c word rest b = ap (λ o. fits c word && o) b ∙ neither (fits c word)
+
+calls_other : (c : Class) (word : Token) (rest : List Token) → fits c word ≡ false → calls c (word ∷ rest) ≡ false
+unfolding calls
+calls_other c word rest w = rw w refl
+
+unary_item : (room : ℕ) (place : Item) (token : Token) (before after : List Token) → Is class.Name token → begins (class.Symbol OPEN_PAREN) before ≡ false →
+    item_at room (token ∷ before) ≡ Ok (place, after) → unary_at (expr_in room) room (token ∷ before) ≡ Ok (expr.Item place, after)
+unfolding unary_at name_at place_at
+unary_item room place token before after is b d =
+    rw (
+      begins_not (class.Symbol NOT) token before (apart class.Name (class.Symbol NOT) (λ text e. refl) _ is),
+      begins_is class.Name token before is,
+      calls_not class.Choosing token before b,
+      calls_not class.Counting token before b,
+      d,
+    )
+
+unary_choose : (room : ℕ) (word open_token comma close_token : Token) (first second : Expr) (before middle after : List Token) →
+    Is class.Choosing word → Is (class.Symbol OPEN_PAREN) open_token →
+    expr_at room 7 before ≡ Ok (first, comma ∷ middle) → Is (class.Symbol COMMA) comma →
+    expr_at room 7 middle ≡ Ok (second, close_token ∷ after) → Is (class.Symbol CLOSE_PAREN) close_token →
+    unary_at (expr_in (suc room)) (suc room) (word ∷ open_token ∷ before) ≡ Ok (expr.Call word (first ∷ second ∷ []), after)
+unfolding unary_at name_at choose_at
+unary_choose room word open_token comma close_token first second before middle after w o a p b shut =
+    rw (
+      begins_not (class.Symbol NOT) word (open_token ∷ before) (apart class.Choosing (class.Symbol NOT) (refl, refl) _ w),
+      begins_is class.Name word (open_token ∷ before) (choosing_named word w),
+      calls_is class.Choosing word open_token before w o,
+      one_is class.Choosing word (open_token ∷ before) w,
+      after_is (class.Symbol OPEN_PAREN) open_token before o,
+      in_is room 7 open_token before,
+      a,
+      after_is (class.Symbol COMMA) comma middle p,
+      in_is room 7 comma middle,
+      b,
+      after_is (class.Symbol CLOSE_PAREN) close_token after shut,
+    )
+
+unary_count : (room : ℕ) (word open_token close_token : Token) (operand : Expr) (before after : List Token) →
+    Is class.Counting word → Is (class.Symbol OPEN_PAREN) open_token →
+    expr_at room 7 before ≡ Ok (operand, close_token ∷ after) → Is (class.Symbol CLOSE_PAREN) close_token →
+    unary_at (expr_in (suc room)) (suc room) (word ∷ open_token ∷ before) ≡ Ok (expr.Call word (operand ∷ []), after)
+unfolding unary_at name_at count_at
+unary_count room word open_token close_token operand before after w o a shut =
+    rw (
+      begins_not (class.Symbol NOT) word (open_token ∷ before) (apart class.Counting (class.Symbol NOT) refl _ w),
+      begins_is class.Name word (open_token ∷ before) (counting_named word w),
+      calls_other class.Choosing word (open_token ∷ before) (counting_apart word w),
+      calls_is class.Counting word open_token before w o,
+      one_is class.Counting word (open_token ∷ before) w,
+      after_is (class.Symbol OPEN_PAREN) open_token before o,
+      in_is room 7 open_token before,
+      a,
+      after_is (class.Symbol CLOSE_PAREN) close_token after shut,
+    )
 
 unary_paren : (room : ℕ) (open_token close_token : Token) (inner : Expr) (before after : List Token) → Is (class.Symbol OPEN_PAREN) open_token →
     expr_at room 7 before ≡ Ok (inner, close_token ∷ after) → Is (class.Symbol CLOSE_PAREN) close_token →
@@ -349,6 +455,8 @@ listed_is class.Number operand room tokens h = refl
 listed_is class.Name operand room tokens h = refl
 listed_is class.Type operand room tokens h = refl
 listed_is class.Party operand room tokens h = refl
+listed_is class.Choosing operand room tokens h = refl
+listed_is class.Counting operand room tokens h = refl
 listed_is class.Adding operand room tokens h = refl
 listed_is class.Scaling operand room tokens h = refl
 listed_is class.Shifting operand room tokens h = absurd (cc)
@@ -377,6 +485,8 @@ level_alone class.Number operand room e before after d h = chain_alone operand c
 level_alone class.Name operand room e before after d h = chain_alone operand class.Name e before after d h
 level_alone class.Type operand room e before after d h = chain_alone operand class.Type e before after d h
 level_alone class.Party operand room e before after d h = chain_alone operand class.Party e before after d h
+level_alone class.Choosing operand room e before after d h = chain_alone operand class.Choosing e before after d h
+level_alone class.Counting operand room e before after d h = chain_alone operand class.Counting e before after d h
 level_alone class.Adding operand room e before after d h = chain_alone operand class.Adding e before after d h
 level_alone class.Scaling operand room e before after d h = chain_alone operand class.Scaling e before after d h
 level_alone class.Shifting operand room e before after d h = shift_alone operand room e before after d h
@@ -401,10 +511,17 @@ unfolding compare_at compare_from
 compare_more operand op first second before middle after d is s =
     rw (d, begins_is class.Comparing op middle is, one_is class.Comparing op middle is, s)
 
-item_case : {room : ℕ} {place : Item} {before after : List Token} → IsItem room place before after → begins (class.Symbol OPEN_BRACKET) after ≡ false →
+index_no_paren : {room : ℕ} {size : Option (Token × ConstExpr)} {before after : List Token} → IsIndex room size before after →
+    begins (class.Symbol OPEN_PAREN) after ≡ false → begins (class.Symbol OPEN_PAREN) before ≡ false
+index_no_paren IsIndex.absent b = b
+index_no_paren (IsIndex.present {open_token = open_token} {before = before} is d shut) b =
+    begins_not (class.Symbol OPEN_PAREN) open_token before (apart (class.Symbol OPEN_BRACKET) (class.Symbol OPEN_PAREN) refl _ is)
+
+item_case : {room : ℕ} {place : Item} {before after : List Token} → IsItem room place before after → ExprEnds 0 after →
     expr_at room 0 before ≡ Ok (expr.Item place, after)
 item_case {room = room} {after = after} (IsItem.place {name = token} {index = index} {before = before} is d) b =
-    at_zero room (token ∷ before) ∙ unary_item room (item_of token index) token before after is (item_full (IsItem.place is d) b)
+    at_zero room (token ∷ before)
+    ∙ unary_item room (item_of token index) token before after is (index_no_paren d b.1) (item_full (IsItem.place is d) b.0)
 
 -- one less
 abbrev below : ℕ → ℕ
@@ -420,7 +537,7 @@ mutual
       ∙ unary_paren room open_token close_token inner before after is (expr_full d (omega arith) (paren_ends close_token after shut)) shut
   expr_full {after = after} (IsExpr.lit {room = room} {word = word} {ty = ty} {open_token = open_token} {close_token = close_token} {value = value} {before = before} w t o d shut) h f =
       at_zero (suc room) (word ∷ ty ∷ open_token ∷ before)
-      ∙ unary_lit room word ty open_token close_token value before after w t o (const_full d (omega arith) (const_closing 8 refl refl close_token after shut)) shut
+      ∙ unary_lit room word ty open_token close_token value before after w t o (const_full d (omega arith) (const_closing CLOSE_PAREN refl refl close_token after shut)) shut
   expr_full {after = after} (IsExpr.resize {room = room} {word = word} {ty = ty} {open_token = open_token} {close_token = close_token} {operand = operand} {before = before} w t o d shut) h f =
       at_zero (suc room) (word ∷ ty ∷ open_token ∷ before)
       ∙ unary_resize room word ty open_token close_token operand before after w t o (expr_full d (omega arith) (paren_ends close_token after shut)) shut
@@ -429,6 +546,13 @@ mutual
       ∙ unary_mux room word open_token comma second_comma close_token condition chosen other before second third after w o
       (expr_full a (omega arith) (comma_ends comma second p)) p (expr_full b (omega arith) (comma_ends second_comma third q)) q
       (expr_full c (omega arith) (paren_ends close_token after shut)) shut
+  expr_full {after = after} (IsExpr.choose {room = room} {word = word} {open_token = open_token} {comma = comma} {close_token = close_token} {first = first} {second = second} {before = before} {middle = middle} w o a p b shut) h f =
+      at_zero (suc room) (word ∷ open_token ∷ before)
+      ∙ unary_choose room word open_token comma close_token first second before middle after w o
+      (expr_full a (omega arith) (comma_ends comma middle p)) p (expr_full b (omega arith) (paren_ends close_token after shut)) shut
+  expr_full {after = after} (IsExpr.count {room = room} {word = word} {open_token = open_token} {close_token = close_token} {operand = operand} {before = before} w o a shut) h f =
+      at_zero (suc room) (word ∷ open_token ∷ before)
+      ∙ unary_count room word open_token close_token operand before after w o (expr_full a (omega arith) (paren_ends close_token after shut)) shut
   expr_full {after = after} (IsExpr.«not» {room = room} {op = op} {operand = operand} {before = before} is d) h f =
       at_zero (suc room) (op ∷ before) ∙ unary_not room op operand before after is (expr_full d (omega arith) f)
   expr_full {room = room} {e = e} {before = before} {after = after} (IsExpr.alone {level = level} d) h f =

@@ -301,7 +301,7 @@ comparing_ends op rest is = (
 )
 
 block_ends : {room : ℕ} {body : List Stmt} {before after : List Token} → IsBlock room body before after → ConstEnds 3 before
-block_ends (IsBlock.block {open_token = open_token} {before = before} is d shut) = const_closing 11 refl refl open_token before is
+block_ends (IsBlock.block {open_token = open_token} {before = before} is d shut) = const_closing OPEN_BRACE refl refl open_token before is
 
 -- a token that begins a statement
 record Begins (tokens : List Token) : Type 0 where
@@ -395,10 +395,10 @@ mutual
       stmt_at room before ≡ Ok (s, after)
   stmt_full {room = room} {after = after} (IsStmt.constant {word = word} {name = token} {eq = eq} {end = end} {value = value} {before = before} w n q d shut) g =
       stmt_is room (word ∷ token ∷ eq ∷ before) ∙ pick_const (stmts_in room) room word (token ∷ eq ∷ before) w
-      ∙ constant_full room word token eq end value before after w n q (const_full d (omega arith) (const_closing 4 refl refl end after shut)) shut
+      ∙ constant_full room word token eq end value before after w n q (const_full d (omega arith) (const_closing SEMICOLON refl refl end after shut)) shut
   stmt_full {room = room} {after = after} (IsStmt.input {word = word} {party = party} {name = token} {colon = colon} {ty = ty} {end = end} {size = size} {before = before} w p n c t d shut) g =
       stmt_is room (word ∷ party ∷ token ∷ colon ∷ ty ∷ before) ∙ pick_input (stmts_in room) room word (party ∷ token ∷ colon ∷ ty ∷ before) w
-      ∙ input_full room word party token colon ty end size before after w p n c t (index_full d (symbol_no_index end after 4 refl shut)) shut
+      ∙ input_full room word party token colon ty end size before after w p n c t (index_full d (symbol_no_index end after SEMICOLON refl shut)) shut
   stmt_full {room = room} {after = after} (IsStmt.«let» {word = word} {name = token} {eq = eq} {end = end} {value = value} {before = before} w n q d shut) g =
       stmt_is room (word ∷ token ∷ eq ∷ before) ∙ pick_let (stmts_in room) room word (token ∷ eq ∷ before) w
       ∙ let_full room word token eq end value before after w n q (expr_full d (omega arith) (semicolon_ends end after shut)) shut
@@ -408,18 +408,18 @@ mutual
       (expr_full f (omega arith) (semicolon_ends end after shut)) shut
   stmt_full {room = room} {before = before} {after = after} (IsStmt.assign {place = place} {eq = eq} {end = end} {value = value} {middle = middle} d q f shut) g =
       stmt_is room before ∙ assign_case (stmts_in room) d
-      ∙ assign_full room place eq end value before middle after (item_full d (symbol_no_index eq middle 13 refl q)) q
+      ∙ assign_full room place eq end value before middle after (item_full d (symbol_no_index eq middle ASSIGN refl q)) q
       (expr_full f (omega arith) (semicolon_ends end after shut)) shut
   stmt_full {room = room} {after = after} (IsStmt.move {word = word} {name = token} {eq = eq} {end = end} {place = place} {before = before} w n q d shut) g =
       stmt_is room (word ∷ token ∷ eq ∷ before) ∙ pick_move (stmts_in room) room word (token ∷ eq ∷ before) w
-      ∙ move_full room word token eq end place before after w n q (item_full d (symbol_no_index end after 4 refl shut)) shut
+      ∙ move_full room word token eq end place before after w n q (item_full d (symbol_no_index end after SEMICOLON refl shut)) shut
   stmt_full {room = room} {after = after} (IsStmt.on {word = word} {worker = worker} {body = body} {before = before} {middle = middle} w d b) g =
       stmt_is room (word ∷ before) ∙ pick_on (stmts_in room) room word before w
       ∙ on_full (stmts_in room) room word worker body before middle after w (const_full d (omega arith) (block_ends b)) (block_full b)
   stmt_full {room = room} {after = after} (IsStmt.for {word = word} {name = token} {within = within} {dots = dots} {from = from} {to = to} {body = body} {before = before} {middle = middle} {last = last} w n i d q f b) g =
       stmt_is room (word ∷ token ∷ within ∷ before) ∙ pick_for (stmts_in room) room word (token ∷ within ∷ before) w
       ∙ for_full (stmts_in room) room word token within dots from to body before middle last after w n i
-      (const_full d (omega arith) (const_closing 0 refl refl dots middle q)) q (const_full f (omega arith) (block_ends b)) (block_full b)
+      (const_full d (omega arith) (const_closing DOTS refl refl dots middle q)) q (const_full f (omega arith) (block_ends b)) (block_full b)
   stmt_full {room = room} {after = after} (IsStmt.choice {word = word} {op = op} {left = left} {right = right} {yes = chosen} {no = other} {before = before} {middle = middle} {block = block} {last = last} w d q f b o) g =
       stmt_is room (word ∷ before) ∙ pick_if (stmts_in room) room word before w
       ∙ choice_full (stmts_in room) room word op left right chosen other before middle block last after w

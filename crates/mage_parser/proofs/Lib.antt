@@ -3,13 +3,11 @@ pub mod Lexed
 pub mod Sound
 pub mod SoundExpressions
 pub mod SoundStatements
-pub mod Apart
 pub mod FullConstants
 pub mod FullExpressions
 pub mod FullStatements
-pub mod Wider
 pub mod OneTree
-pub mod Whole
+pub mod Answered
 pub mod Columns
 pub mod Machine
 pub mod Follow
@@ -19,11 +17,8 @@ pub mod FollowStatements
 pub mod Room
 pub mod Viable
 pub mod FirstWrong
-pub mod Opened
-pub mod Making
-pub mod Spelled
-pub mod Printing
 pub mod Nested
 pub mod NestedExpressions
 pub mod NestedStatements
 pub mod OneFault
+pub mod ReadingLaw

@@ -34,7 +34,7 @@ mark_class comparing = class.Comparing
 pub data Want : Type 0 where
   fixed : Mark → Want
   constant constant_tail expression expression_tail : ℕ → Want
-  index bracketed block block_rest otherwise workers : Want
+  index choosing_rest counting_rest bracketed block block_rest otherwise workers : Want
 
 abbrev pub below : ℕ → ℕ
 below zero = zero
@@ -56,10 +56,16 @@ const_start (suc zero) token =
     if fits (class.Symbol MINUS) token then Some (constant 1 ∷ []) else const_start zero token
 const_start (suc (suc level)) token = then_also (const_start (suc level) token) (constant_tail (suc (suc level)))
 
+-- what a name in an expression wants behind it: the bracket of a call, where it is a call's word, or an index
+abbrev pub name_rest : Bool → Bool → Want
+name_rest true counting = choosing_rest
+name_rest false true = counting_rest
+name_rest false false = index
+
 unfoldable pub expr_start : ℕ → Token → Option (List Want)
 expr_start zero token =
     if fits (class.Symbol NOT) token then Some (expression 0 ∷ [])
-    else (if fits class.Name token then Some (index ∷ [])
+    else (if fits class.Name token then Some (name_rest (fits class.Choosing token) (fits class.Counting token) ∷ [])
     else (if fits (class.Word keyword.Lit) token then Some (fixed a_type ∷ fixed open_paren ∷ constant 3 ∷ fixed close_paren ∷ [])
     else (if fits (class.Word keyword.Resize) token then Some (fixed a_type ∷ fixed open_paren ∷ expression 7 ∷ fixed close_paren ∷ [])
     else (if fits (class.Word keyword.Mux) token then Some (fixed open_paren ∷ expression 7 ∷ fixed comma ∷ expression 7 ∷ fixed comma ∷ expression 7 ∷ fixed close_paren ∷ [])
@@ -103,6 +109,12 @@ step (constant_tail level) token = if fits (const_operators level) token then ta
 step (expression level) token = started (expr_start level token)
 step (expression_tail level) token = if fits (operators level) token then taken (tail_of (operators level) level) else passed
 step index token = if fits (class.Symbol OPEN_BRACKET) token then taken (constant 3 ∷ fixed close_bracket ∷ []) else passed
+step choosing_rest token =
+    if fits (class.Symbol OPEN_PAREN) token then taken (expression 7 ∷ fixed comma ∷ expression 7 ∷ fixed close_paren ∷ [])
+    else (if fits (class.Symbol OPEN_BRACKET) token then taken (constant 3 ∷ fixed close_bracket ∷ []) else passed)
+step counting_rest token =
+    if fits (class.Symbol OPEN_PAREN) token then taken (expression 7 ∷ fixed close_paren ∷ [])
+    else (if fits (class.Symbol OPEN_BRACKET) token then taken (constant 3 ∷ fixed close_bracket ∷ []) else passed)
 step bracketed token = if fits (class.Symbol OPEN_BRACKET) token then taken (constant 3 ∷ fixed close_bracket ∷ []) else refused
 step block token = if fits (class.Symbol OPEN_BRACE) token then taken (block_rest ∷ []) else refused
 step block_rest token = if fits (class.Symbol CLOSE_BRACE) token then taken [] else started (then_also (stmt_start token) block_rest)
@@ -124,6 +136,8 @@ abbrev pub may_end : Want → Bool
 may_end (constant_tail level) = true
 may_end (expression_tail level) = true
 may_end index = true
+may_end choosing_rest = true
+may_end counting_rest = true
 may_end otherwise = true
 may_end workers = true
 may_end _ = false

@@ -1,17 +1,18 @@
 -- How deep the tokens that are read stand: what is open along them, and what a reader does with it.
 use Rattle.std.proofs.Common.{◌≡◌, ℕ, suc, ◌≤◌, Bool, true, false, ◌&&◌, not, List, [], ◌∷◌, ◌++◌, length, cond, refl, ap, sym, ◌∙◌, append_assoc}
 use Rattle.std.specs.Prelude.{Result, Ok, Err}
-use Rattle.mage_lex.specs.Symbols.{DOTS, SEMICOLON, COLON, COMMA, OPEN_PAREN, CLOSE_PAREN, OPEN_BRACKET, CLOSE_BRACKET, OPEN_BRACE, CLOSE_BRACE, ASSIGN, MINUS, TIMES, AND, XOR, OR, NOT}
+use Rattle.mage_lex.specs.Symbols.{DOTS, SEMICOLON, COLON, COMMA, OPEN_PAREN, CLOSE_PAREN, OPEN_BRACKET, CLOSE_BRACKET, OPEN_BRACE, CLOSE_BRACE, ASSIGN, MINUS, AND, XOR, OR, NOT}
 use Rattle.mage_lex.specs.declared.token.Token.{Token}
 use Rattle.mage_lex.specs.declared.token.TokenKind.{TokenKind}
 use Rattle.mage_lex.specs.Words as words
 use Rattle.mage_tree.specs.declared.class.Class.{Class}
 use Rattle.mage_tree.specs.declared.class.Class.TheVariants as class
+use Rattle.mage_tree.specs.declared.class.Callable.TheVariants as callable
 use Rattle.mage_tree.specs.declared.class.Keyword.{Keyword}
 use Rattle.mage_tree.specs.declared.class.Keyword.TheVariants as keyword
 use Rattle.mage_parser.specs.declared.stop.Stop.{Stop}
 use Rattle.mage_parser.specs.declared.stop.Stop.TheVariants as stops
-use Rattle.mage_tree.specs.Classes.{text_of, fits}
+use Rattle.mage_tree.specs.Classes.{text_of, call_text, fits}
 use Rattle.mage_parser.specs.Reads.{◌>>=◌, one, after_one}
 use Rattle.mage_tree.specs.Grammar.{Is}
 use Rattle.mage_tree.specs.Depth.{Opened, a_bracket, a_sign, Nesting, without_signs, without_bracket, open_at, behind}
@@ -85,9 +86,6 @@ dots_settles o token is = step_of (class.Symbol DOTS) (ended o) (without_signs o
 pub assign_settles : Settles (class.Symbol ASSIGN)
 assign_settles o token is = step_of (class.Symbol ASSIGN) (ended o) (without_signs o) (fresh (without_signs o)) (record { opens = refl; goes = refl }) token is
 
-pub times_settles : Settles (class.Symbol TIMES)
-times_settles o token is = step_of (class.Symbol TIMES) (ended o) (without_signs o) (fresh (without_signs o)) (record { opens = refl; goes = refl }) token is
-
 pub and_settles : Settles (class.Symbol AND)
 and_settles o token is = step_of (class.Symbol AND) (ended o) (without_signs o) (fresh (without_signs o)) (record { opens = refl; goes = refl }) token is
 
@@ -119,6 +117,21 @@ number_ends o token is = step_of class.Number (fresh o) o (ended o) (λ value. r
 
 pub name_ends : (o : List Opened) (token : Token) → Is class.Name token → Step (fresh o) token.kind o (ended o)
 name_ends o token is = step_of class.Name (fresh o) o (ended o) (λ text e. record { opens = refl; goes = rw e refl }) token is
+
+call_named : (words.is_name (call_text callable.Min) ≡ true) × (words.is_name (call_text callable.Max) ≡ true) × (words.is_name (call_text callable.Count) ≡ true)
+unfolding call_text words.is_keyword
+call_named = (refl, refl, refl)
+
+-- a call's word, which seems a name, and its bracket
+pub choosing_ends : (o : List Opened) (token : Token) → Is class.Choosing token → Step (fresh o) token.kind o (ended o)
+choosing_ends o token is =
+    step_of class.Choosing (fresh o) o (ended o) (record { opens = refl; goes = rw call_named.0 refl }, record { opens = refl; goes = rw call_named.1 refl }) token is
+
+pub counting_ends : (o : List Opened) (token : Token) → Is class.Counting token → Step (fresh o) token.kind o (ended o)
+counting_ends o token is = step_of class.Counting (fresh o) o (ended o) (record { opens = refl; goes = rw call_named.2 refl }) token is
+
+pub call_opens : (o : List Opened) (token : Token) → Is (class.Symbol OPEN_PAREN) token → Step (ended o) token.kind (a_bracket ∷ o) (fresh (a_bracket ∷ o))
+call_opens o token is = step_of (class.Symbol OPEN_PAREN) (ended o) (a_bracket ∷ o) (fresh (a_bracket ∷ o)) (record { opens = refl; goes = refl }) token is
 
 -- brackets and signs
 pub paren_opens : (o : List Opened) (token : Token) → Is (class.Symbol OPEN_PAREN) token → Step (fresh o) token.kind (a_bracket ∷ o) (fresh (a_bracket ∷ o))

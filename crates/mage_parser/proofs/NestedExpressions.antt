@@ -1,6 +1,6 @@
 -- How deep the tokens of constants and expressions stand, as far as they are read.
 use Rattle.std.proofs.Common.{◌≡◌, ℕ, zero, suc, ◌+◌, ◌≤◌, false, List, [], ◌∷◌, length, refl, ap, sym, arith}
-use Rattle.mage_lex.specs.Symbols.{COMMA, OPEN_PAREN, CLOSE_PAREN, OPEN_BRACKET, CLOSE_BRACKET, MINUS, TIMES, AND, XOR, OR, NOT}
+use Rattle.mage_lex.specs.Symbols.{COMMA, OPEN_PAREN, CLOSE_PAREN, OPEN_BRACKET, CLOSE_BRACKET, MINUS, AND, XOR, OR, NOT}
 use Rattle.mage_lex.specs.declared.token.Token.{Token}
 use Rattle.mage_tree.specs.declared.class.Class.{Class}
 use Rattle.mage_tree.specs.declared.class.Class.TheVariants as class
@@ -9,13 +9,13 @@ use Rattle.mage_tree.specs.declared.tree.ConstExpr.{ConstExpr}
 use Rattle.mage_tree.specs.declared.tree.Expr.{Expr}
 use Rattle.mage_lex.specs.Words as words
 use Rattle.mage_tree.specs.Classes.{text_of}
-use Rattle.mage_parser.specs.Reads.{Read, begins, operands}
+use Rattle.mage_parser.specs.Reads.{Read, begins, calls, operands}
 use Rattle.mage_tree.specs.Grammar.{Is, const_operators, operators}
 use Rattle.mage_parser.specs.Constants.{const_atom, const_unary, const_chain, const_from, const_in, const_at}
-use Rattle.mage_parser.specs.Expressions.{bracketed, index_at, item_at, lit_at, resize_at, mux_at, paren_at, not_at, place_at, unary_at, chain_at, shift_at, compare_from, compare_at, level_at, expr_from, expr_in, expr_at}
+use Rattle.mage_parser.specs.Expressions.{bracketed, index_at, item_at, lit_at, resize_at, mux_at, paren_at, not_at, place_at, choose_at, count_at, name_at, unary_at, chain_at, shift_at, compare_from, compare_at, level_at, expr_from, expr_in, expr_at}
 use Rattle.mage_tree.specs.Depth.{Opened, a_bracket, a_sign, Nesting, without_signs, open_at}
 use Rattle.mage_parser.proofs.Follow.{after}
-use Rattle.mage_parser.proofs.Nested.{fresh, ended, Step, Settles, word_passes, type_passes, comma_settles, times_settles, and_settles, xor_settles, or_settles, adding_settles, scaling_settles, shifting_settles, comparing_settles, number_ends, name_ends, paren_opens, index_opens, not_opens, minus_opens, Ends, ends_here, settles_at, paren_shuts_at, index_shuts_at, Way, no_way, way_one, Meets, m_along, m_weaker, m_read, m_if, m_one, m_after, m_take, m_pass}
+use Rattle.mage_parser.proofs.Nested.{fresh, ended, Step, Settles, word_passes, type_passes, comma_settles, and_settles, xor_settles, or_settles, adding_settles, scaling_settles, shifting_settles, comparing_settles, number_ends, name_ends, choosing_ends, counting_ends, call_opens, paren_opens, index_opens, not_opens, minus_opens, Ends, ends_here, settles_at, paren_shuts_at, index_shuts_at, Way, no_way, way_one, Meets, m_along, m_weaker, m_read, m_if, m_one, m_after, m_take, m_pass}
 
 -- what is read is left where an operand has ended
 abbrev ConstMeets : ℕ → Nesting → List Token → Read ConstExpr → List Opened → Type 0
@@ -199,6 +199,31 @@ m_mux room deep tokens limit o h =
     m_read limit u chosen.1 (expr_in room 7 chosen.1) after (Inside limit (a_bracket ∷ o)) _ _ _ (deep 7 chosen.1 second_comma r4 limit u a_bracket o e4 (comma_opens o u j.0 second_comma is4) h refl) (λ other v k.
     m_pass limit v (class.Symbol CLOSE_PAREN) other.1 (a_bracket ∷ o) (ended o) _ _ _ (paren_shuts_at o v k.0) k.1 (λ others. (ended o, no_way limit (ended o) others, ends_here o)))))))))
 
+m_choose : (room : ℕ) → ExprIn room → (tokens : List Token) (limit : ℕ) (o : List Opened) → length o + room ≡ limit → ExprMeets limit (fresh o) tokens (choose_at (expr_in room) tokens) o
+unfolding choose_at
+m_choose room deep tokens limit o h =
+    m_take limit (fresh o) class.Choosing tokens o (ended o) _ _ _ (choosing_ends o) (omega arith) (λ word r1.
+    m_after limit (ended o) (class.Symbol OPEN_PAREN) r1 _ _ _ (λ token r2 e is.
+    m_read limit (ended o) r1 (expr_in room 7 r1) after (Inside limit (a_bracket ∷ o)) _ _ _ (deep 7 r1 token r2 limit (ended o) a_bracket o e (call_opens o token is) h refl) (λ first t i.
+    m_after limit t (class.Symbol COMMA) first.1 _ _ _ (λ comma r3 e3 is3.
+    m_read limit t first.1 (expr_in room 7 first.1) after (Inside limit (a_bracket ∷ o)) _ _ _ (deep 7 first.1 comma r3 limit t a_bracket o e3 (comma_opens o t i.0 comma is3) h refl) (λ second u j.
+    m_pass limit u (class.Symbol CLOSE_PAREN) second.1 (a_bracket ∷ o) (ended o) _ _ _ (paren_shuts_at o u j.0) j.1 (λ others. (ended o, no_way limit (ended o) others, ends_here o)))))))
+
+m_count : (room : ℕ) → ExprIn room → (tokens : List Token) (limit : ℕ) (o : List Opened) → length o + room ≡ limit → ExprMeets limit (fresh o) tokens (count_at (expr_in room) tokens) o
+unfolding count_at
+m_count room deep tokens limit o h =
+    m_take limit (fresh o) class.Counting tokens o (ended o) _ _ _ (counting_ends o) (omega arith) (λ word r1.
+    m_after limit (ended o) (class.Symbol OPEN_PAREN) r1 _ _ _ (λ token r2 e is.
+    m_read limit (ended o) r1 (expr_in room 7 r1) after (Inside limit (a_bracket ∷ o)) _ _ _ (deep 7 r1 token r2 limit (ended o) a_bracket o e (call_opens o token is) h refl) (λ operand t i.
+    m_pass limit t (class.Symbol CLOSE_PAREN) operand.1 (a_bracket ∷ o) (ended o) _ _ _ (paren_shuts_at o t i.0) i.1 (λ others. (ended o, no_way limit (ended o) others, ends_here o)))))
+
+m_name : (room : ℕ) → ExprIn room → (tokens : List Token) (limit : ℕ) (o : List Opened) → length o + room ≡ limit → ExprMeets limit (fresh o) tokens (name_at (expr_in room) room tokens) o
+unfolding name_at
+m_name room deep tokens limit o h =
+    m_if limit (fresh o) tokens (calls class.Choosing tokens) _ _ after (Ends o) (m_choose room deep tokens limit o h)
+    (m_if limit (fresh o) tokens (calls class.Counting tokens) _ _ after (Ends o) (m_count room deep tokens limit o h)
+    (m_place room tokens limit o h))
+
 m_paren : (room : ℕ) → ExprIn room → (tokens : List Token) (limit : ℕ) (o : List Opened) → length o + room ≡ limit → ExprMeets limit (fresh o) tokens (paren_at (expr_in room) tokens) o
 unfolding paren_at
 m_paren room deep tokens limit o h =
@@ -210,7 +235,7 @@ m_unary : (room : ℕ) → ExprIn room → (tokens : List Token) (limit : ℕ) (
 unfolding unary_at
 m_unary room deep tokens limit o h =
     m_if limit (fresh o) tokens (begins (class.Symbol NOT) tokens) _ _ after (Ends o) (m_not room deep tokens limit o h)
-    (m_if limit (fresh o) tokens (begins class.Name tokens) _ _ after (Ends o) (m_place room tokens limit o h)
+    (m_if limit (fresh o) tokens (begins class.Name tokens) _ _ after (Ends o) (m_name room deep tokens limit o h)
     (m_if limit (fresh o) tokens (begins (class.Word keyword.Lit) tokens) _ _ after (Ends o) (m_lit room tokens limit o h)
     (m_if limit (fresh o) tokens (begins (class.Word keyword.Resize) tokens) _ _ after (Ends o) (m_resize room deep tokens limit o h)
     (m_if limit (fresh o) tokens (begins (class.Word keyword.Mux) tokens) _ _ after (Ends o) (m_mux room deep tokens limit o h)
@@ -246,7 +271,7 @@ m_compare limit o operand flat h each tokens =
 
 m_level : (level room limit : ℕ) (o : List Opened) (operand : List Token → Read Expr) → without_signs o ≡ o → length o + room ≡ limit → Each limit o operand →
     Each limit o (level_at (operators (suc level)) operand room)
-m_level zero room limit o operand flat h each tokens = m_chain (class.Symbol TIMES) times_settles limit o operand flat (omega arith) each tokens
+m_level zero room limit o operand flat h each tokens = m_chain class.Scaling scaling_settles limit o operand flat (omega arith) each tokens
 m_level (suc zero) room limit o operand flat h each tokens = m_chain class.Adding adding_settles limit o operand flat (omega arith) each tokens
 m_level (suc (suc zero)) room limit o operand flat h each tokens = m_shift room limit o operand flat h each tokens
 m_level (suc (suc (suc zero))) room limit o operand flat h each tokens = m_chain (class.Symbol AND) and_settles limit o operand flat (omega arith) each tokens

@@ -13,12 +13,12 @@ use Rattle.mage_parser.specs.declared.stop.Stop.{Stop}
 use Rattle.mage_parser.specs.declared.stop.Stop.TheVariants as stops
 use Rattle.mage_tree.specs.declared.tree.Stmt.{Stmt}
 use Rattle.mage_parser.specs.Reads.{Fails}
-use Rattle.mage_tree.specs.Sources.{IsSource}
+use Rattle.mage_tree.specs.Sources.{MOST_DEPTH, IsSource}
 use Rattle.mage_parser.specs.Statements.{source_at}
 use Rattle.mage_tree.specs.Laws.{IsFront, Breaks}
 use Rattle.mage_tree.specs.Depth.{Nesting, outermost, open_at, behind, depths_from, depths}
-use Rattle.mage_parser.specs.Faults.{fault_at, last_of, fault_of}
-use Rattle.mage_tree.specs.FirstFault.{IsWithin, StandsBehind, IsFirstFault, IsFirstFaultOf, IsThisOrMemory, HasDepthOfRoom, HasSource, HasOneAnswer}
+use Rattle.mage_parser.specs.Faults.{last_of, fault_of}
+use Rattle.mage_tree.specs.FirstFault.{fault_at, IsWithin, StandsBehind, IsFirstFault, IsFirstFaultOf, IsThisOrMemory, HasDepthOfRoom, HasSource, HasOneAnswer}
 use Rattle.mage_parser.proofs.SoundStatements.{source_sound}
 use Rattle.mage_parser.proofs.FullStatements.{source_full}
 use Rattle.mage_parser.proofs.OneTree.{one_tree}
@@ -64,8 +64,8 @@ last_same : (xs : List ℕ) (a b : ℕ) → xs ++ a ∷ [] ≡ xs ++ b ∷ [] �
 last_same [] a b e = cc
 last_same (x ∷ xs) a b e = last_same xs a b (cc)
 
-deep_there : (front : List Token) (token : Token) → depths (front ++ token ∷ []) ≡ depths front ++ 101 ∷ [] → length (open_at (nested outermost front) token.kind) ≡ 101
-deep_there front token e = last_same (depths front) (length (open_at (nested outermost front) token.kind)) 101 (sym (depths_more front token outermost) ∙ e)
+deep_there : (front : List Token) (token : Token) → depths (front ++ token ∷ []) ≡ depths front ++ suc MOST_DEPTH ∷ [] → length (open_at (nested outermost front) token.kind) ≡ suc MOST_DEPTH
+deep_there front token e = last_same (depths front) (length (open_at (nested outermost front) token.kind)) (suc MOST_DEPTH) (sym (depths_more front token outermost) ∙ e)
 
 -- two ways to cut a list
 same_cut : (a b c d : List Token) → a ++ b ≡ c ++ d → length b ≡ length d → (a ≡ c) × (b ≡ d)
@@ -157,12 +157,12 @@ read_within room tokens count body e =
     within_shallow room tokens (rw (sym all) at m.1.shallow)
 
 -- at an earlier fault no source goes on within the depth
-earlier : (kind : LangKind) (front : List Token) (token : Token) (rest more : List Token) → StandsBehind kind front (token ∷ rest) → IsFront ((front ++ token ∷ []) ++ more) → IsWithin 100 ((front ++ token ∷ []) ++ more) → ⊥
+earlier : (kind : LangKind) (front : List Token) (token : Token) (rest more : List Token) → StandsBehind kind front (token ∷ rest) → IsFront ((front ++ token ∷ []) ++ more) → IsWithin MOST_DEPTH ((front ++ token ∷ []) ++ more) → ⊥
 earlier wrong.Syntax front token rest more s f w = s.2 (shorter_front (front ++ token ∷ []) more f)
 earlier wrong.TooDeep front token rest more s f w =
-    let deep : length (open_at (nested outermost front) token.kind) ≡ 101 = deep_there front token s.2 in
-    let shallow : Shallow 100 outermost (front ++ token ∷ more) = rw (sym (along front token more)) at (shallow_within 100 ((front ++ token ∷ []) ++ more) w) in
-    omega (arith, deep, shallow_there 100 front token more outermost shallow)
+    let deep : length (open_at (nested outermost front) token.kind) ≡ suc MOST_DEPTH = deep_there front token s.2 in
+    let shallow : Shallow MOST_DEPTH outermost (front ++ token ∷ more) = rw (sym (along front token more)) at (shallow_within MOST_DEPTH ((front ++ token ∷ []) ++ more) w) in
+    omega (arith, deep, shallow_there MOST_DEPTH front token more outermost shallow)
 earlier wrong.BadByte front token rest more s f w = s
 earlier wrong.BadNumber front token rest more s f w = s
 earlier wrong.TooLong front token rest more s f w = s
@@ -176,7 +176,7 @@ earlier wrong.BadWidth front token rest more s f w = s
 earlier wrong.BadWorker front token rest more s f w = s
 
 -- what stands before a fault
-before_fault : (kind : LangKind) (front back : List Token) → StandsBehind kind front back → IsFront front × IsWithin 100 front
+before_fault : (kind : LangKind) (front back : List Token) → StandsBehind kind front back → IsFront front × IsWithin MOST_DEPTH front
 before_fault wrong.Syntax front back s = (s.0, s.1)
 before_fault wrong.TooDeep front [] s = absurd s
 before_fault wrong.TooDeep front (token ∷ rest) s = (shorter_front front (token ∷ []) s.0, s.1)
@@ -222,11 +222,11 @@ apart front [] s d = d
 apart front (token ∷ rest) s d = s.2 d.0
 
 -- what reading finds
-syntax_found : (tokens : List Token) (left : ℕ) → source_at 100 tokens ≡ Err (stops.Syntax left) → (back : List Token) × (length back ≡ left) × IsFirstFault wrong.Syntax tokens back
-syntax_found tokens left e = let s = syntax_first 100 tokens left e in (s.1, s.3, (s.0, s.2, (s.4, s.5, s.6)))
+syntax_found : (tokens : List Token) (left : ℕ) → source_at MOST_DEPTH tokens ≡ Err (stops.Syntax left) → (back : List Token) × (length back ≡ left) × IsFirstFault wrong.Syntax tokens back
+syntax_found tokens left e = let s = syntax_first MOST_DEPTH tokens left e in (s.1, s.3, (s.0, s.2, (s.4, s.5, s.6)))
 
-deep_found : (tokens : List Token) (left : ℕ) → source_at 100 tokens ≡ Err (stops.TooDeep left) → (back : List Token) × (length back ≡ left) × IsFirstFault wrong.TooDeep tokens back
-deep_found tokens left e = let d = deep_first 100 tokens left e in (d.token ∷ d.rest, d.count, (d.front, d.whole, (d.goes_on, d.within, d.depth)))
+deep_found : (tokens : List Token) (left : ℕ) → source_at MOST_DEPTH tokens ≡ Err (stops.TooDeep left) → (back : List Token) × (length back ≡ left) × IsFirstFault wrong.TooDeep tokens back
+deep_found tokens left e = let d = deep_first MOST_DEPTH tokens left e in (d.token ∷ d.rest, d.count, (d.front, d.whole, (d.goes_on, d.within, d.depth)))
 
 count_less : (a b : ℕ) → (a + b) - b ≡ a
 count_less a b = omega arith
@@ -241,13 +241,23 @@ found_at : (text : List ℕ) (tokens : List Token) (kind : LangKind) (back : Lis
 found_at text tokens kind [] f = ([], f, refl)
 found_at text tokens kind (token ∷ rest) f = (token ∷ rest, f, refl)
 
+-- reading needs no memory in the definitions
+pub no_memory : (tokens : List Token) → source_at MOST_DEPTH tokens ≡ Err stops.Memory → ⊥
+no_memory tokens e = rw e at (m_source MOST_DEPTH tokens)
+
 -- where reading stops is the first fault
-pub stands : (text : List ℕ) (tokens : List Token) (stop : Stop) → Fails stop (source_at 100 tokens) → IsFirstFaultOf text tokens (fault_of text tokens stop)
+pub fault_found : (text : List ℕ) (tokens : List Token) (stop : Stop) → source_at MOST_DEPTH tokens ≡ Err stop →
+    (kind : LangKind) × (back : List Token) × IsFirstFault kind tokens back × (fault_of text tokens stop ≡ fault_at kind text back)
+fault_found text tokens (stops.Syntax left) e =
+    let s = syntax_found tokens left e in (wrong.Syntax, s.0, s.2, (rw (last_is tokens s.2.0 s.0 left s.2.1 s.1) refl))
+fault_found text tokens (stops.TooDeep left) e =
+    let s = deep_found tokens left e in (wrong.TooDeep, s.0, s.2, (rw (last_is tokens s.2.0 s.0 left s.2.1 s.1) refl))
+fault_found text tokens stops.Memory e = absurd (no_memory tokens e)
+
+pub stands : (text : List ℕ) (tokens : List Token) (stop : Stop) → Fails stop (source_at MOST_DEPTH tokens) → IsFirstFaultOf text tokens (fault_of text tokens stop)
 stands text tokens stops.Memory f = tt
-stands text tokens (stops.Syntax left) f =
-    let s = syntax_found tokens left f in rw (last_is tokens s.2.0 s.0 left s.2.1 s.1) (found_at text tokens wrong.Syntax s.0 s.2)
-stands text tokens (stops.TooDeep left) f =
-    let s = deep_found tokens left f in rw (last_is tokens s.2.0 s.0 left s.2.1 s.1) (found_at text tokens wrong.TooDeep s.0 s.2)
+stands text tokens (stops.Syntax left) f = let s = fault_found text tokens (stops.Syntax left) f in rw s.3 (found_at text tokens s.0 s.1 s.2)
+stands text tokens (stops.TooDeep left) f = let s = fault_found text tokens (stops.TooDeep left) f in rw s.3 (found_at text tokens s.0 s.1 s.2)
 
 this_one : (text : List ℕ) (kind : LangKind) (back : List Token) → IsThisOrMemory (fault_at kind text back) (fault_at kind text back)
 this_one text kind [] = refl
@@ -288,25 +298,31 @@ moved : (kind : LangKind) (front back front2 back2 : List Token) → front ≡ f
 moved kind front back front2 back2 e d s = rw (sym e, sym d) s
 
 -- the first fault is what reading finds
-pub answers : (text : List ℕ) (tokens : List Token) (stop : Stop) (kind : LangKind) (back : List Token) → Fails stop (source_at 100 tokens) → IsFirstFault kind tokens back →
-    IsThisOrMemory (fault_at kind text back) (fault_of text tokens stop)
-answers text tokens stops.Memory kind back f g = tt
-answers text tokens (stops.Syntax left) kind back f g =
+pub same_fault : (text : List ℕ) (tokens : List Token) (stop : Stop) (kind : LangKind) (back : List Token) → source_at MOST_DEPTH tokens ≡ Err stop → IsFirstFault kind tokens back →
+    fault_at kind text back ≡ fault_of text tokens stop
+same_fault text tokens (stops.Syntax left) kind back f g =
     let s = syntax_found tokens left f in
     let one = one_place tokens kind wrong.Syntax back s.0 g s.2 in
     let same : kind ≡ wrong.Syntax = syntax_only kind s.2.0 s.0 (moved kind g.0 back s.2.0 s.0 one.0 one.1 g.2) s.2.2 in
-    rw (same, one.1, last_is tokens s.2.0 s.0 left s.2.1 s.1) (this_one text wrong.Syntax s.0)
-answers text tokens (stops.TooDeep left) kind back f g =
+    rw (same, one.1, last_is tokens s.2.0 s.0 left s.2.1 s.1) refl
+same_fault text tokens (stops.TooDeep left) kind back f g =
     let s = deep_found tokens left f in
     let one = one_place tokens kind wrong.TooDeep back s.0 g s.2 in
     let same : kind ≡ wrong.TooDeep = deep_only kind s.2.0 s.0 (moved kind g.0 back s.2.0 s.0 one.0 one.1 g.2) s.2.2 in
-    rw (same, one.1, last_is tokens s.2.0 s.0 left s.2.1 s.1) (this_one text wrong.TooDeep s.0)
+    rw (same, one.1, last_is tokens s.2.0 s.0 left s.2.1 s.1) refl
+same_fault text tokens stops.Memory kind back f g = absurd (no_memory tokens f)
+
+pub answers : (text : List ℕ) (tokens : List Token) (stop : Stop) (kind : LangKind) (back : List Token) → Fails stop (source_at MOST_DEPTH tokens) → IsFirstFault kind tokens back →
+    IsThisOrMemory (fault_at kind text back) (fault_of text tokens stop)
+answers text tokens stops.Memory kind back f g = tt
+answers text tokens (stops.Syntax left) kind back f g = rw (← same_fault text tokens (stops.Syntax left) kind back f g) (this_one text kind back)
+answers text tokens (stops.TooDeep left) kind back f g = rw (← same_fault text tokens (stops.TooDeep left) kind back f g) (this_one text kind back)
 
 -- a source within the depth has no fault
-no_fault_in : (kind : LangKind) (front back : List Token) (count : Option Token) (body : List Stmt) → IsSource 100 count body (front ++ back) → IsWithin 100 (front ++ back) → StandsBehind kind front back → ⊥
+no_fault_in : (kind : LangKind) (front back : List Token) (count : Option Token) (body : List Stmt) → IsSource MOST_DEPTH count body (front ++ back) → IsWithin MOST_DEPTH (front ++ back) → StandsBehind kind front back → ⊥
 no_fault_in kind front (token ∷ rest) count body s w f =
-    earlier kind front token rest rest f (source_front 100 count body ((front ++ token ∷ []) ++ rest) [] (rw (append-nil ((front ++ token ∷ []) ++ rest)) (rw (along front token rest) at s))) (rw (along front token rest) at w)
-no_fault_in wrong.Syntax front [] count body s w f = no_break front [] 100 count body s f.2
+    earlier kind front token rest rest f (source_front MOST_DEPTH count body ((front ++ token ∷ []) ++ rest) [] (rw (append-nil ((front ++ token ∷ []) ++ rest)) (rw (along front token rest) at s))) (rw (along front token rest) at w)
+no_fault_in wrong.Syntax front [] count body s w f = no_break front [] MOST_DEPTH count body s f.2
 no_fault_in wrong.TooDeep front [] count body s w f = f
 no_fault_in wrong.BadByte front [] count body s w f = f
 no_fault_in wrong.BadNumber front [] count body s w f = f
@@ -320,10 +336,10 @@ no_fault_in wrong.ConstFault front [] count body s w f = f
 no_fault_in wrong.BadWidth front [] count body s w f = f
 no_fault_in wrong.BadWorker front [] count body s w f = f
 
-pub no_fault : (tokens : List Token) (count : Option Token) (body : List Stmt) (kind : LangKind) (back : List Token) → source_at 100 tokens ≡ Ok (count, body) → IsFirstFault kind tokens back → ⊥
+pub no_fault : (tokens : List Token) (count : Option Token) (body : List Stmt) (kind : LangKind) (back : List Token) → source_at MOST_DEPTH tokens ≡ Ok (count, body) → IsFirstFault kind tokens back → ⊥
 no_fault tokens count body kind back e f =
-    let s : IsSource 100 count body tokens = rw e at (source_sound 100 tokens) in
-    no_fault_in kind f.0 back count body (rw f.1 at s) (rw f.1 at (read_within 100 tokens count body e)) f.2
+    let s : IsSource MOST_DEPTH count body tokens = rw e at (source_sound MOST_DEPTH tokens) in
+    no_fault_in kind f.0 back count body (rw f.1 at s) (rw f.1 at (read_within MOST_DEPTH tokens count body e)) f.2
 
 -- the room of the grammar is the greatest depth
 pub depth_of_room : (tokens : List Token) → HasDepthOfRoom tokens
@@ -358,16 +374,16 @@ same_kind kind wrong.ConstFault front back s d = absurd d
 same_kind kind wrong.BadWidth front back s d = absurd d
 same_kind kind wrong.BadWorker front back s d = absurd d
 
-answer_of : (tokens : List Token) (read : Result (Option Token × List Stmt) Stop) → source_at 100 tokens ≡ read → HasSource tokens ⊎ ((kind : LangKind) × (back : List Token) × IsFirstFault kind tokens back)
-answer_of tokens (Ok x) e = inl (x.0, x.1, (rw e at (source_sound 100 tokens)))
+answer_of : (tokens : List Token) (read : Result (Option Token × List Stmt) Stop) → source_at MOST_DEPTH tokens ≡ read → HasSource tokens ⊎ ((kind : LangKind) × (back : List Token) × IsFirstFault kind tokens back)
+answer_of tokens (Ok x) e = inl (x.0, x.1, (rw e at (source_sound MOST_DEPTH tokens)))
 answer_of tokens (Err (stops.Syntax left)) e = let f = syntax_found tokens left e in inr (wrong.Syntax, f.0, f.2)
 answer_of tokens (Err (stops.TooDeep left)) e = let f = deep_found tokens left e in inr (wrong.TooDeep, f.0, f.2)
-answer_of tokens (Err stops.Memory) e = absurd (rw e at (m_source 100 tokens))
+answer_of tokens (Err stops.Memory) e = absurd (rw e at (m_source MOST_DEPTH tokens))
 
 -- some tokens have a source or one first fault
 pub one_answer : (tokens : List Token) → HasOneAnswer tokens
 one_answer tokens = record {
-  some = answer_of tokens (source_at 100 tokens) refl;
+  some = answer_of tokens (source_at MOST_DEPTH tokens) refl;
   apart = λ kind back s f. no_fault tokens s.0 s.1 kind back (source_full s.2) f;
   one = λ kind other back other_back f g.
       let place = one_place tokens kind other back other_back f g in

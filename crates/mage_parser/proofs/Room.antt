@@ -13,10 +13,10 @@ use Rattle.mage_tree.specs.declared.tree.Expr.{Expr}
 use Rattle.mage_tree.specs.declared.tree.Item.{Item}
 use Rattle.mage_tree.specs.declared.tree.Stmt.{Stmt}
 use Rattle.mage_tree.specs.Classes.{fits}
-use Rattle.mage_parser.specs.Reads.{◌>>=◌, Read, begins, one, after_one, operands}
+use Rattle.mage_parser.specs.Reads.{◌>>=◌, Read, begins, calls, one, after_one, operands}
 use Rattle.mage_tree.specs.Grammar.{const_operators, operators}
 use Rattle.mage_parser.specs.Constants.{const_atom, const_unary, const_chain, const_from, const_in, const_at}
-use Rattle.mage_parser.specs.Expressions.{bracketed, index_at, item_at, lit_at, resize_at, mux_at, paren_at, not_at, place_at, unary_at, chain_at, shift_at, compare_from, compare_at, level_at, expr_from, expr_in, expr_at}
+use Rattle.mage_parser.specs.Expressions.{bracketed, index_at, item_at, lit_at, resize_at, mux_at, paren_at, not_at, place_at, choose_at, count_at, name_at, unary_at, chain_at, shift_at, compare_from, compare_at, level_at, expr_from, expr_in, expr_at}
 use Rattle.mage_parser.specs.Statements.{constant_at, input_at, let_at, array_at, assign_at, move_at, output_at, block_at, on_at, for_at, else_at, choice_at, stmt_from, are_over, stmts_from, stmts_in, stmt_at, stmts_at, workers_at, at_end, source_at}
 use Rattle.mage_parser.proofs.Sound.{one_then, after_then, if_then, const_sound}
 use Rattle.mage_parser.proofs.SoundExpressions.{bracketed_sound, item_sound, expr_in_sound, expr_sound}
@@ -155,12 +155,35 @@ seven = omega arith
 in_shorter : (room : ℕ) (tokens : List Token) (token : Token) (rest : List Token) → tokens ≡ token ∷ rest → (x : Expr × List Token) → expr_in room 7 tokens ≡ Ok x → length x.1 ≤ length tokens
 in_shorter room tokens token rest e x f = let known = rw f at (expr_in_sound room 7 seven tokens token rest e) in let k = expr_shrinks known.2 in let l = ap length e in omega (arith, k, l)
 
+d_place : (room : ℕ) (tokens : List Token) (n : ℕ) → length tokens ≤ n → Deep room n (place_at room tokens)
+unfolding place_at
+d_place room tokens n m = d_read room n (item_at room tokens) _ (d_item room tokens n m) (λ item i. tt)
+
+d_choose : (room : ℕ) → ExprIn room → (tokens : List Token) (n : ℕ) → length tokens ≤ n → Deep room n (choose_at (expr_in room) tokens)
+unfolding choose_at
+d_choose room deep tokens n m =
+    d_one room n class.Choosing tokens _ (λ word r1 e1. d_after room n (class.Symbol OPEN_PAREN) r1 _ (λ bracket r2 e2.
+    d_read room n (expr_in room 7 r1) _ (deep 7 seven r1 bracket r2 e2 n (shorter tokens word r1 n e1 m)) (λ first i.
+    d_after room n (class.Symbol COMMA) first.1 _ (λ comma r3 e3.
+    d_read room n (expr_in room 7 first.1) _ (deep 7 seven first.1 comma r3 e3 n (let k = in_shorter room r1 bracket r2 e2 first i in let l = shorter tokens word r1 n e1 m in omega (arith, k, l))) (λ second j.
+    d_after room n (class.Symbol CLOSE_PAREN) second.1 _ (λ last others f. tt))))))
+
+d_count : (room : ℕ) → ExprIn room → (tokens : List Token) (n : ℕ) → length tokens ≤ n → Deep room n (count_at (expr_in room) tokens)
+unfolding count_at
+d_count room deep tokens n m =
+    d_one room n class.Counting tokens _ (λ word r1 e1. d_after room n (class.Symbol OPEN_PAREN) r1 _ (λ bracket r2 e2.
+    d_read room n (expr_in room 7 r1) _ (deep 7 seven r1 bracket r2 e2 n (shorter tokens word r1 n e1 m)) (λ operand i.
+    d_after room n (class.Symbol CLOSE_PAREN) operand.1 _ (λ last others f. tt))))
+
 d_unary : (room : ℕ) → ExprIn room → (tokens : List Token) (n : ℕ) → length tokens ≤ n → Deep room n (unary_at (expr_in room) room tokens)
-unfolding unary_at not_at place_at lit_at resize_at mux_at paren_at
+unfolding unary_at not_at name_at lit_at resize_at mux_at paren_at
 d_unary room deep tokens n m =
     d_if room n (begins (class.Symbol NOT) tokens) _ _
     (d_one room n (class.Symbol NOT) tokens _ (λ token rest e. d_read room n (expr_in room 0 tokens) _ (deep 0 (omega arith) tokens token rest e n m) (λ operand i. tt)))
-    (d_if room n (begins class.Name tokens) _ _ (d_read room n (item_at room tokens) _ (d_item room tokens n m) (λ item i. tt))
+    (d_if room n (begins class.Name tokens) _ _
+    (d_if room n (calls class.Choosing tokens) _ _ (d_choose room deep tokens n m)
+    (d_if room n (calls class.Counting tokens) _ _ (d_count room deep tokens n m)
+    (d_place room tokens n m)))
     (d_if room n (begins (class.Word keyword.Lit) tokens) _ _
     (d_one room n (class.Word keyword.Lit) tokens _ (λ word r1 e1. d_one room n class.Type r1 _ (λ ty r2 e2. d_after room n (class.Symbol OPEN_PAREN) r2 _ (λ bracket r3 e3.
     d_read room n (const_in room 3 r2) _ (d_const_in room 3 r2 bracket r3 e3 n (shorter r1 ty r2 n e2 (shorter tokens word r1 n e1 m))) (λ value v. d_after room n (class.Symbol CLOSE_PAREN) value.1 _ (λ last others f. tt))))))
@@ -213,6 +236,8 @@ d_at class.Number room n operand shrinks deep tokens m = d_level class.Number ro
 d_at class.Name room n operand shrinks deep tokens m = d_level class.Name room n operand shrinks deep tokens m
 d_at class.Type room n operand shrinks deep tokens m = d_level class.Type room n operand shrinks deep tokens m
 d_at class.Party room n operand shrinks deep tokens m = d_level class.Party room n operand shrinks deep tokens m
+d_at class.Choosing room n operand shrinks deep tokens m = d_level class.Choosing room n operand shrinks deep tokens m
+d_at class.Counting room n operand shrinks deep tokens m = d_level class.Counting room n operand shrinks deep tokens m
 d_at class.Adding room n operand shrinks deep tokens m = d_level class.Adding room n operand shrinks deep tokens m
 d_at class.Scaling room n operand shrinks deep tokens m = d_level class.Scaling room n operand shrinks deep tokens m
 d_at class.Shifting room n operand shrinks deep tokens m = d_shift room n operand shrinks deep tokens m

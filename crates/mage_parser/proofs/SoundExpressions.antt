@@ -8,10 +8,10 @@ use Rattle.mage_tree.specs.declared.class.Keyword.TheVariants as keyword
 use Rattle.mage_tree.specs.declared.tree.ConstExpr.{ConstExpr}
 use Rattle.mage_tree.specs.declared.tree.Expr.{Expr}
 use Rattle.mage_tree.specs.declared.tree.Expr.TheVariants as expr
-use Rattle.mage_parser.specs.Reads.{Read, begins, operands}
+use Rattle.mage_parser.specs.Reads.{Read, begins, calls, operands}
 use Rattle.mage_tree.specs.Grammar.{Is, IsIndex, IsItem, AreAmounts, IsExpr, AreExprs, operators, is_listed}
 use Rattle.mage_parser.specs.Constants.{const_in, const_at}
-use Rattle.mage_parser.specs.Expressions.{bracketed, index_at, item_at, lit_at, resize_at, mux_at, paren_at, not_at, place_at, unary_at, chain_of, shift_of, chain_at, shift_at, compare_from, compare_at, level_at, expr_from, expr_in, expr_at}
+use Rattle.mage_parser.specs.Expressions.{bracketed, index_at, item_at, lit_at, resize_at, mux_at, paren_at, not_at, place_at, choose_at, count_at, name_at, unary_at, chain_of, shift_of, chain_at, shift_at, compare_from, compare_at, level_at, expr_from, expr_in, expr_at}
 use Rattle.mage_parser.proofs.Sound.{one_then, after_then, read_then, if_then, weaker, const_in_sound, const_sound}
 
 pub bracketed_sound : (room : ℕ) (tokens : List Token) → IfOk (bracketed room tokens) (λ x. IsIndex room (Some x.0) tokens x.1)
@@ -114,12 +114,49 @@ mux_sound room deeper deep tokens =
     after_then (class.Symbol CLOSE_PAREN) other.1 _ _ (λ close_token after last shut.
     rw (e1, e2) (mux_case i1 i2 d.1 (rw e3 at d.2) i3 f.1 (rw e4 at f.2) i4 g.1 (rw last at g.2) shut)))))))))
 
+choose_case : {room less second : ℕ} {word open_token comma close_token : Token} {one other : Expr} {r0 r1 after : List Token} →
+    Is class.Choosing word → Is (class.Symbol OPEN_PAREN) open_token →
+    room ≡ suc less → IsExpr 7 less one r0 (comma ∷ r1) → Is (class.Symbol COMMA) comma →
+    room ≡ suc second → IsExpr 7 second other r1 (close_token ∷ after) → Is (class.Symbol CLOSE_PAREN) close_token →
+    IsExpr 0 room (expr.Call word (one ∷ other ∷ [])) (word ∷ open_token ∷ r0) after
+choose_case w o a p c b q s = rw a (IsExpr.choose w o p c (rw (same_room a b) at q) s)
+
+choose_sound : (room : ℕ) (deeper : ℕ → List Token → Read Expr) → IsSoundIn room deeper → (tokens : List Token) →
+    IfOk (choose_at deeper tokens) (λ x. IsExpr 0 room x.0 tokens x.1)
+unfolding choose_at
+choose_sound room deeper deep tokens =
+    one_then class.Choosing tokens _ _ (λ word r1 e1 i1.
+    after_then (class.Symbol OPEN_PAREN) r1 _ _ (λ bracket r2 e2 i2.
+    read_then (deeper 7 r1) _ _ _ (deep 7 below_eight r1 bracket r2 e2) (λ first d.
+    after_then (class.Symbol COMMA) first.1 _ _ (λ comma r3 e3 i3.
+    read_then (deeper 7 first.1) _ _ _ (deep 7 below_eight first.1 comma r3 e3) (λ second f.
+    after_then (class.Symbol CLOSE_PAREN) second.1 _ _ (λ close_token after last shut.
+    rw (e1, e2) (choose_case i1 i2 d.1 (rw e3 at d.2) i3 f.1 (rw last at f.2) shut)))))))
+
+count_sound : (room : ℕ) (deeper : ℕ → List Token → Read Expr) → IsSoundIn room deeper → (tokens : List Token) →
+    IfOk (count_at deeper tokens) (λ x. IsExpr 0 room x.0 tokens x.1)
+unfolding count_at
+count_sound room deeper deep tokens =
+    one_then class.Counting tokens _ _ (λ word r1 e1 i1.
+    after_then (class.Symbol OPEN_PAREN) r1 _ _ (λ bracket r2 e2 i2.
+    read_then (deeper 7 r1) _ _ _ (deep 7 below_eight r1 bracket r2 e2) (λ operand d.
+    after_then (class.Symbol CLOSE_PAREN) operand.1 _ _ (λ close_token after last shut.
+    rw (e1, e2, d.1) (IsExpr.count i1 i2 (rw last at d.2) shut)))))
+
+name_sound : (room : ℕ) (deeper : ℕ → List Token → Read Expr) → IsSoundIn room deeper → (tokens : List Token) →
+    IfOk (name_at deeper room tokens) (λ x. IsExpr 0 room x.0 tokens x.1)
+unfolding name_at
+name_sound room deeper deep tokens =
+    if_then (calls class.Choosing tokens) _ _ _ (choose_sound room deeper deep tokens)
+    (if_then (calls class.Counting tokens) _ _ _ (count_sound room deeper deep tokens)
+    (place_sound room tokens))
+
 unary_sound : (room : ℕ) (deeper : ℕ → List Token → Read Expr) → IsSoundIn room deeper → (tokens : List Token) →
     IfOk (unary_at deeper room tokens) (λ x. IsExpr 0 room x.0 tokens x.1)
 unfolding unary_at
 unary_sound room deeper deep tokens =
     if_then (begins (class.Symbol NOT) tokens) _ _ _ (not_sound room deeper deep tokens)
-    (if_then (begins class.Name tokens) _ _ _ (place_sound room tokens)
+    (if_then (begins class.Name tokens) _ _ _ (name_sound room deeper deep tokens)
     (if_then (begins (class.Word keyword.Lit) tokens) _ _ _ (lit_sound room tokens)
     (if_then (begins (class.Word keyword.Resize) tokens) _ _ _ (resize_sound room deeper deep tokens)
     (if_then (begins (class.Word keyword.Mux) tokens) _ _ _ (mux_sound room deeper deep tokens)

@@ -12,7 +12,7 @@ use Rattle.mage_tree.specs.declared.tree.ConstExpr.{ConstExpr}
 use Rattle.mage_tree.specs.declared.tree.Expr.{Expr}
 use Rattle.mage_tree.specs.declared.tree.Expr.TheVariants as expr
 use Rattle.mage_tree.specs.declared.tree.Item.{Item}
-use Rattle.mage_parser.specs.Reads.{◌>>=◌, Read, begins, one, after_one, operands}
+use Rattle.mage_parser.specs.Reads.{◌>>=◌, Read, begins, calls, one, after_one, operands}
 use Rattle.mage_tree.specs.Grammar.{item_of, operators}
 use Rattle.mage_parser.specs.Constants.{const_in, const_at}
 
@@ -83,6 +83,26 @@ mux_at deeper tokens = do
   after ← after_one (class.Symbol CLOSE_PAREN) other.1
   Ok (expr.Mux word.0 (condition.0 ∷ chosen.0 ∷ other.0 ∷ []), after)
 
+-- `min` or `max`, whose operands `deeper` reads from the token before each on
+unfoldable pub choose_at : (ℕ → List Token → Read Expr) → List Token → Read Expr
+choose_at deeper tokens = do
+  word ← one class.Choosing tokens
+  bracket ← after_one (class.Symbol OPEN_PAREN) word.1
+  first ← deeper 7 word.1
+  comma ← after_one (class.Symbol COMMA) first.1
+  second ← deeper 7 first.1
+  after ← after_one (class.Symbol CLOSE_PAREN) second.1
+  Ok (expr.Call word.0 (first.0 ∷ second.0 ∷ []), after)
+
+-- `count`, whose operand `deeper` reads from the bracket on
+unfoldable pub count_at : (ℕ → List Token → Read Expr) → List Token → Read Expr
+count_at deeper tokens = do
+  word ← one class.Counting tokens
+  bracket ← after_one (class.Symbol OPEN_PAREN) word.1
+  operand ← deeper 7 word.1
+  after ← after_one (class.Symbol CLOSE_PAREN) operand.1
+  Ok (expr.Call word.0 (operand.0 ∷ []), after)
+
 -- an expression in brackets
 unfoldable pub paren_at : (ℕ → List Token → Read Expr) → List Token → Read Expr
 paren_at deeper tokens = do
@@ -103,11 +123,18 @@ place_at room tokens = do
   item ← item_at room tokens
   Ok (expr.Item item.0, item.1)
 
+-- what begins with a name: a call where `(` is the next token, else a place
+unfoldable pub name_at : (ℕ → List Token → Read Expr) → ℕ → List Token → Read Expr
+name_at deeper room tokens =
+    if calls class.Choosing tokens then choose_at deeper tokens
+    else (if calls class.Counting tokens then count_at deeper tokens
+    else place_at room tokens)
+
 -- an operand: what it is, is seen from its first token
 unfoldable pub unary_at : (ℕ → List Token → Read Expr) → ℕ → List Token → Read Expr
 unary_at deeper room tokens =
     if begins (class.Symbol NOT) tokens then not_at deeper tokens
-    else (if begins class.Name tokens then place_at room tokens
+    else (if begins class.Name tokens then name_at deeper room tokens
     else (if begins (class.Word keyword.Lit) tokens then lit_at room tokens
     else (if begins (class.Word keyword.Resize) tokens then resize_at deeper tokens
     else (if begins (class.Word keyword.Mux) tokens then mux_at deeper tokens

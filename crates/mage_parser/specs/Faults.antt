@@ -1,6 +1,5 @@
 -- The faults of reading, with their places.
-use Rattle.std.specs.Prelude.{◌≡◌, ℕ, ◌-◌, List, [], ◌∷◌, length, drop, Option, Result, Ok, Err}
-use Rattle.mage_lex.specs.Places.{line_after, column_after}
+use Rattle.std.specs.Prelude.{◌≡◌, ℕ, ◌-◌, List, length, drop, Option, Result, Ok, Err}
 use Rattle.mage_lex.specs.declared.token.Token.{Token}
 use Rattle.mage_lex.specs.declared.fault.LangKind.{LangKind}
 use Rattle.mage_lex.specs.declared.fault.LangKind.TheVariants as wrong
@@ -9,6 +8,8 @@ use Rattle.mage_lex.specs.declared.fault.LangFault.TheVariants as faults
 use Rattle.mage_parser.specs.declared.stop.Stop.{Stop}
 use Rattle.mage_parser.specs.declared.stop.Stop.TheVariants as stops
 use Rattle.mage_tree.specs.declared.tree.Stmt.{Stmt}
+use Rattle.mage_tree.specs.Sources.{MOST_DEPTH}
+use Rattle.mage_tree.specs.FirstFault.{fault_at}
 use Rattle.mage_parser.specs.Statements.{source_at}
 
 -- the last so many tokens
@@ -27,7 +28,7 @@ parsed_from text tokens (Ok source) = Ok source
 parsed_from text tokens (Err stop) = Err (fault_of text tokens stop)
 
 unfoldable pub parsed : List ℕ → List Token → Result (Option Token × List Stmt) LangFault
-parsed text tokens = parsed_from text tokens (source_at 100 tokens)
+parsed text tokens = parsed_from text tokens (source_at MOST_DEPTH tokens)
 
 -- the fault is the one that was found, or want of memory
 abbrev pub IsFaultOf : Result (Option Token × List Stmt) LangFault → LangFault → Type 0

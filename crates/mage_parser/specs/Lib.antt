@@ -1,14 +1,6 @@
-pub mod Classes
 pub mod Reads
-pub mod Grammar
-pub mod Sources
-pub mod Laws
 pub mod Constants
 pub mod Expressions
 pub mod Statements
 pub mod Faults
-pub mod Words
-pub mod Printed
-pub mod Made
-pub mod Depth
-pub mod FirstFault
+pub mod Laws

@@ -1,7 +1,9 @@
 -- What reading gives: a value and the tokens after it, or where it stops.
-use Rattle.std.specs.Prelude.{◌≡◌, ℕ, zero, suc, Bool, false, List, [], ◌∷◌, length, Result, Ok, Err, if◌then◌else◌}
+use Rattle.std.specs.Prelude.{◌≡◌, ℕ, zero, suc, Bool, false, ◌&&◌, List, [], ◌∷◌, length, Result, Ok, Err, if◌then◌else◌}
 use Rattle.mage_lex.specs.declared.token.Token.{Token}
+use Rattle.mage_lex.specs.Symbols.{OPEN_PAREN}
 use Rattle.mage_tree.specs.declared.class.Class.{Class}
+use Rattle.mage_tree.specs.declared.class.Class.TheVariants as classes
 use Rattle.mage_parser.specs.declared.stop.Stop.{Stop}
 use Rattle.mage_parser.specs.declared.stop.Stop.TheVariants as stops
 use Rattle.mage_tree.specs.Classes.{fits}
@@ -30,6 +32,11 @@ Gives view (Err e) read = Fails e read
 unfoldable pub begins : Class → List Token → Bool
 begins class [] = false
 begins class (token ∷ rest) = fits class token
+
+-- the first token is a word of the class, and `(` is the next
+unfoldable pub calls : Class → List Token → Bool
+calls class [] = false
+calls class (word ∷ rest) = fits class word && begins (classes.Symbol OPEN_PAREN) rest
 
 -- the first token, which has to be of the class
 unfoldable pub one : Class → List Token → Read Token

@@ -3,15 +3,13 @@ ghost use Rattle.std.specs.Prelude.{◌≡◌, ◌≤◌, ℕ, List, [], ◌∷�
 ghost use Rattle.mage_parser.specs.Reads.{Gives};
 ghost use Rattle.mage_parser.specs.Statements.{block_at, on_at, for_at, else_at, choice_at, stmt_at, are_over, stmts_in, stmts_at, stmts_from};
 
-use crate::Stmt;
-use crate::parser::class::{Class, ConstLevel, Keyword};
-use crate::parser::constants::const_at;
-use crate::parser::front::{after_one, begins, one};
-use crate::parser::statements::{
-    array_at, assign_at, constant_at, input_at, let_at, move_at, output_at,
-};
-use crate::parser::stop::Stop;
+use crate::constants::const_at;
+use crate::front::{after_one, begins, one};
+use crate::level::ConstLevel;
+use crate::statements::{array_at, assign_at, constant_at, input_at, let_at, move_at, output_at};
+use crate::stop::Stop;
 use mage_lex::{Token, symbols};
+use mage_tree::{Class, Keyword, Stmt};
 use sqlite_items::Items;
 use std::alloc::Global;
 
@@ -34,6 +32,7 @@ fn on_at(alloc: Global, tokens: &[Token], room: u32) -> Result<(Stmt, &[Token]),
     let (word, rest) = one(tokens, Class::Word(Keyword::On))?;
     let (worker, rest) = const_at(alloc, rest, ConstLevel::Sum, room)?;
     let (body, rest) = block_at(alloc, rest, room)?;
+    let worker = worker.into_inner();
     Ok((Stmt::On { word, worker, body }, rest))
 }
 
@@ -53,8 +52,8 @@ fn for_at(alloc: Global, tokens: &[Token], room: u32) -> Result<(Stmt, &[Token])
         Stmt::For {
             word,
             name,
-            from,
-            to,
+            from: from.into_inner(),
+            to: to.into_inner(),
             body,
         },
         rest,
@@ -94,9 +93,9 @@ fn choice_at(alloc: Global, tokens: &[Token], room: u32) -> Result<(Stmt, &[Toke
     Ok((
         Stmt::If {
             word,
-            left,
+            left: left.into_inner(),
             op,
-            right,
+            right: right.into_inner(),
             yes,
             no,
         },

@@ -3,46 +3,55 @@ ghost use Rattle.std.specs.Prelude.{◌≡◌, ◌≤◌, ℕ, List, Result, len
 ghost use Rattle.mage_parser.specs.Reads.{Gives, operands};
 ghost use Rattle.mage_parser.specs.Constants.{const_rank, const_atom, const_unary, const_chain_of, const_chain, const_in, const_at};
 
-use crate::ConstExpr;
-use crate::parser::class::{Class, ConstLevel};
-use crate::parser::front::{after_one, begins, one};
-use crate::parser::stop::Stop;
+use crate::front::{after_one, begins, one};
+use crate::level::ConstLevel;
+use crate::stop::Stop;
 use mage_lex::{Token, symbols};
+use mage_tree::{Class, ConstExpr};
 use sqlite_items::{Boxed, Items};
 use std::alloc::Global;
 
 // A number, a name, or a constant in brackets.
 #[cycle(constants)]
 #[tactic(auto, unfolding(crate::specs::Constants::const_atom))]
-fn const_atom(alloc: Global, tokens: &[Token], room: u32) -> Result<(ConstExpr, &[Token]), Stop>
+fn const_atom(
+    alloc: Global,
+    tokens: &[Token],
+    room: u32,
+) -> Result<(Boxed<ConstExpr>, &[Token]), Stop>
     ensures { Gives (λ x. (x.0, x.1.now)) result (const_atom (const_in room) tokens.now) }
 {
     if begins(tokens, Class::Number) {
         let (number, rest) = one(tokens, Class::Number)?;
-        return Ok((ConstExpr::Number(number), rest));
+        return Ok((Boxed::new(alloc, ConstExpr::Number(number))?, rest));
     }
     if begins(tokens, Class::Name) {
         let (name, rest) = one(tokens, Class::Name)?;
-        return Ok((ConstExpr::Name(name), rest));
+        return Ok((Boxed::new(alloc, ConstExpr::Name(name))?, rest));
     }
     let (bracket, _) = one(tokens, Class::Symbol(symbols::OPEN_PAREN))?;
     let (inner, rest) = const_in(alloc, tokens, ConstLevel::Sum, room)?;
     let rest = after_one(rest, Class::Symbol(symbols::CLOSE_PAREN))?;
-    let inner = Boxed::new(alloc, inner)?;
-    Ok((ConstExpr::Paren { bracket, inner }, rest))
+    Ok((
+        Boxed::new(alloc, ConstExpr::Paren { bracket, inner })?,
+        rest,
+    ))
 }
 
 // A sign and its operand, or an atom.
 #[cycle(constants)]
 #[tactic(auto, unfolding(crate::specs::Constants::const_unary))]
-fn const_unary(alloc: Global, tokens: &[Token], room: u32) -> Result<(ConstExpr, &[Token]), Stop>
+fn const_unary(
+    alloc: Global,
+    tokens: &[Token],
+    room: u32,
+) -> Result<(Boxed<ConstExpr>, &[Token]), Stop>
     ensures { Gives (λ x. (x.0, x.1.now)) result (const_unary (const_in room) tokens.now) }
 {
     if begins(tokens, Class::Symbol(symbols::MINUS)) {
         let (op, _) = one(tokens, Class::Symbol(symbols::MINUS))?;
-        let (operand, rest) = const_in(alloc, tokens, ConstLevel::Unary, room)?;
-        let of = Boxed::new(alloc, operand)?;
-        Ok((ConstExpr::Minus { op, of }, rest))
+        let (of, rest) = const_in(alloc, tokens, ConstLevel::Unary, room)?;
+        Ok((Boxed::new(alloc, ConstExpr::Minus { op, of })?, rest))
     } else {
         const_atom(alloc, tokens, room)
     }
@@ -56,7 +65,7 @@ pub fn const_in(
     tokens: &[Token],
     level: ConstLevel,
     room: u32,
-) -> Result<(ConstExpr, &[Token]), Stop>
+) -> Result<(Boxed<ConstExpr>, &[Token]), Stop>
     ensures { Gives (λ x. (x.0, x.1.now)) result (const_in room (const_rank level) tokens.now) }
 {
     if room == 0 {
@@ -89,7 +98,7 @@ pub fn const_operands(
         }
         let (op, rest) = one(left, operators)?;
         let (value, rest) = const_at(alloc, rest, operand, room)?;
-        operands.push((op, value))?;
+        operands.push((op, value.into_inner()))?;
         left = rest;
     }
     Ok((operands, left))
@@ -98,16 +107,15 @@ pub fn const_operands(
 // An operand alone, or a chain.
 fn const_chain_of(
     alloc: Global,
-    first: ConstExpr,
+    first: Boxed<ConstExpr>,
     rest: Items<(Token, ConstExpr)>,
-) -> Result<ConstExpr, Stop>
+) -> Result<Boxed<ConstExpr>, Stop>
     ensures { Gives (λ x. x) result (Ok (const_chain_of first rest)) }
 {
     if rest.is_empty() {
         Ok(first)
     } else {
-        let first = Boxed::new(alloc, first)?;
-        Ok(ConstExpr::Chain { first, rest })
+        Ok(Boxed::new(alloc, ConstExpr::Chain { first, rest })?)
     }
 }
 
@@ -120,7 +128,7 @@ fn const_chain(
     operand: ConstLevel,
     operators: Class,
     room: u32,
-) -> Result<(ConstExpr, &[Token]), Stop>
+) -> Result<(Boxed<ConstExpr>, &[Token]), Stop>
     ensures { Gives (λ x. (x.0, x.1.now)) result (const_chain (const_at room (const_rank operand)) operators tokens.now) }
 {
     let (first, left) = const_at(alloc, tokens, operand, room)?;
@@ -136,7 +144,7 @@ pub fn const_at(
     tokens: &[Token],
     level: ConstLevel,
     room: u32,
-) -> Result<(ConstExpr, &[Token]), Stop>
+) -> Result<(Boxed<ConstExpr>, &[Token]), Stop>
     ensures { Gives (λ x. (x.0, x.1.now)) result (const_at room (const_rank level) tokens.now) }
 {
     match level {

@@ -2,14 +2,14 @@
 ghost use Rattle.std.specs.Prelude.{◌≡◌, ◌≤◌, ℕ, List, [], ◌∷◌, Option, Some, Result, Ok, length};
 ghost use Rattle.mage_parser.specs.Reads.{Gives, operands};
 ghost use Rattle.mage_parser.specs.Constants.{const_in, const_at};
-ghost use Rattle.mage_parser.specs.Expressions.{rank, bracketed, index_at, item_at, lit_at, resize_at, mux_at, paren_at, not_at, place_at, unary_at, chain_of, shift_of, chain_at, shift_at, compare_from, compare_at, expr_in, expr_at};
+ghost use Rattle.mage_parser.specs.Expressions.{rank, bracketed, index_at, item_at, lit_at, resize_at, mux_at, paren_at, not_at, place_at, choose_at, count_at, name_at, unary_at, chain_of, shift_of, chain_at, shift_at, compare_from, compare_at, expr_in, expr_at};
 
-use crate::parser::class::{Class, ConstLevel, Keyword, Level};
-use crate::parser::constants::{const_at, const_in, const_operands};
-use crate::parser::front::{after_one, begins, one};
-use crate::parser::stop::Stop;
-use crate::{ConstExpr, Expr, Item};
+use crate::constants::{const_at, const_in, const_operands};
+use crate::front::{after_one, begins, calls, one};
+use crate::level::{ConstLevel, Level};
+use crate::stop::Stop;
 use mage_lex::{Token, symbols};
+use mage_tree::{Class, ConstExpr, Expr, Item, Keyword};
 use sqlite_items::{Boxed, Items};
 use std::alloc::Global;
 
@@ -19,7 +19,7 @@ pub fn bracketed(
     alloc: Global,
     tokens: &[Token],
     room: u32,
-) -> Result<((Token, ConstExpr), &[Token]), Stop>
+) -> Result<((Token, Boxed<ConstExpr>), &[Token]), Stop>
     ensures { Gives (λ x. (x.0, x.1.now)) result (bracketed room tokens.now) }
 {
     let (bracket, _) = one(tokens, Class::Symbol(symbols::OPEN_BRACKET))?;
@@ -38,8 +38,8 @@ pub fn index_at(
     ensures { Gives (λ x. (x.0, x.1.now)) result (index_at room tokens.now) }
 {
     if begins(tokens, Class::Symbol(symbols::OPEN_BRACKET)) {
-        let (index, rest) = bracketed(alloc, tokens, room)?;
-        Ok((Some(index), rest))
+        let ((bracket, value), rest) = bracketed(alloc, tokens, room)?;
+        Ok((Some((bracket, value.into_inner())), rest))
     } else {
         Ok((None, tokens))
     }
@@ -47,24 +47,24 @@ pub fn index_at(
 
 // A place.
 #[tactic(auto, unfolding(crate::specs::Expressions::item_at))]
-pub fn item_at(alloc: Global, tokens: &[Token], room: u32) -> Result<(Item, &[Token]), Stop>
+pub fn item_at(alloc: Global, tokens: &[Token], room: u32) -> Result<(Boxed<Item>, &[Token]), Stop>
     ensures { Gives (λ x. (x.0, x.1.now)) result (item_at room tokens.now) }
 {
     let (name, rest) = one(tokens, Class::Name)?;
     let (index, rest) = index_at(alloc, rest, room)?;
-    Ok((Item { name, index }, rest))
+    Ok((Boxed::new(alloc, Item { name, index })?, rest))
 }
 
 #[tactic(auto, unfolding(crate::specs::Expressions::place_at))]
-fn place_at(alloc: Global, tokens: &[Token], room: u32) -> Result<(Expr, &[Token]), Stop>
+fn place_at(alloc: Global, tokens: &[Token], room: u32) -> Result<(Boxed<Expr>, &[Token]), Stop>
     ensures { Gives (λ x. (x.0, x.1.now)) result (place_at room tokens.now) }
 {
     let (item, rest) = item_at(alloc, tokens, room)?;
-    Ok((Expr::Item(item), rest))
+    Ok((Boxed::new(alloc, Expr::Item(item.into_inner()))?, rest))
 }
 
 #[tactic(auto, unfolding(crate::specs::Expressions::lit_at))]
-fn lit_at(alloc: Global, tokens: &[Token], room: u32) -> Result<(Expr, &[Token]), Stop>
+fn lit_at(alloc: Global, tokens: &[Token], room: u32) -> Result<(Boxed<Expr>, &[Token]), Stop>
     ensures { Gives (λ x. (x.0, x.1.now)) result (lit_at room tokens.now) }
 {
     let (word, rest) = one(tokens, Class::Word(Keyword::Lit))?;
@@ -72,37 +72,42 @@ fn lit_at(alloc: Global, tokens: &[Token], room: u32) -> Result<(Expr, &[Token])
     after_one(rest, Class::Symbol(symbols::OPEN_PAREN))?;
     let (value, rest) = const_in(alloc, rest, ConstLevel::Sum, room)?;
     let rest = after_one(rest, Class::Symbol(symbols::CLOSE_PAREN))?;
-    Ok((Expr::Lit { word, ty, value }, rest))
+    let value = value.into_inner();
+    Ok((Boxed::new(alloc, Expr::Lit { word, ty, value })?, rest))
 }
 
 #[cycle(expressions)]
 #[tactic(auto, unfolding(crate::specs::Expressions::resize_at))]
-fn resize_at(alloc: Global, tokens: &[Token], room: u32) -> Result<(Expr, &[Token]), Stop>
+fn resize_at(alloc: Global, tokens: &[Token], room: u32) -> Result<(Boxed<Expr>, &[Token]), Stop>
     ensures { Gives (λ x. (x.0, x.1.now)) result (resize_at (expr_in room) tokens.now) }
 {
     let (word, rest) = one(tokens, Class::Word(Keyword::Resize))?;
     let (ty, rest) = one(rest, Class::Type)?;
     after_one(rest, Class::Symbol(symbols::OPEN_PAREN))?;
-    let (operand, rest) = expr_in(alloc, rest, Level::Compare, room)?;
+    let (of, rest) = expr_in(alloc, rest, Level::Compare, room)?;
     let rest = after_one(rest, Class::Symbol(symbols::CLOSE_PAREN))?;
-    let of = Boxed::new(alloc, operand)?;
-    Ok((Expr::Resize { word, ty, of }, rest))
+    Ok((Boxed::new(alloc, Expr::Resize { word, ty, of })?, rest))
 }
 
 // The three arguments of `mux`.
-fn three(alloc: Global, first: Expr, second: Expr, third: Expr) -> Result<Items<Expr>, Stop>
+fn three(
+    alloc: Global,
+    first: Boxed<Expr>,
+    second: Boxed<Expr>,
+    third: Boxed<Expr>,
+) -> Result<Items<Expr>, Stop>
     ensures { Gives (λ x. x) result (Ok (first ∷ second ∷ third ∷ [])) }
 {
     let mut args = Items::new(alloc);
-    args.push(first)?;
-    args.push(second)?;
-    args.push(third)?;
+    args.push(first.into_inner())?;
+    args.push(second.into_inner())?;
+    args.push(third.into_inner())?;
     Ok(args)
 }
 
 #[cycle(expressions)]
 #[tactic(auto, unfolding(crate::specs::Expressions::mux_at))]
-fn mux_at(alloc: Global, tokens: &[Token], room: u32) -> Result<(Expr, &[Token]), Stop>
+fn mux_at(alloc: Global, tokens: &[Token], room: u32) -> Result<(Boxed<Expr>, &[Token]), Stop>
     ensures { Gives (λ x. (x.0, x.1.now)) result (mux_at (expr_in room) tokens.now) }
 {
     let (word, rest) = one(tokens, Class::Word(Keyword::Mux))?;
@@ -114,43 +119,87 @@ fn mux_at(alloc: Global, tokens: &[Token], room: u32) -> Result<(Expr, &[Token])
     let (other, rest) = expr_in(alloc, rest, Level::Compare, room)?;
     let rest = after_one(rest, Class::Symbol(symbols::CLOSE_PAREN))?;
     let args = three(alloc, condition, chosen, other)?;
-    Ok((Expr::Mux { word, args }, rest))
+    Ok((Boxed::new(alloc, Expr::Mux { word, args })?, rest))
+}
+
+#[cycle(expressions)]
+#[tactic(auto, unfolding(crate::specs::Expressions::choose_at))]
+fn choose_at(alloc: Global, tokens: &[Token], room: u32) -> Result<(Boxed<Expr>, &[Token]), Stop>
+    ensures { Gives (λ x. (x.0, x.1.now)) result (choose_at (expr_in room) tokens.now) }
+{
+    let (word, rest) = one(tokens, Class::Choosing)?;
+    after_one(rest, Class::Symbol(symbols::OPEN_PAREN))?;
+    let (first, rest) = expr_in(alloc, rest, Level::Compare, room)?;
+    after_one(rest, Class::Symbol(symbols::COMMA))?;
+    let (second, rest) = expr_in(alloc, rest, Level::Compare, room)?;
+    let rest = after_one(rest, Class::Symbol(symbols::CLOSE_PAREN))?;
+    let mut args = Items::new(alloc);
+    args.push(first.into_inner())?;
+    args.push(second.into_inner())?;
+    Ok((Boxed::new(alloc, Expr::Call { word, args })?, rest))
+}
+
+#[cycle(expressions)]
+#[tactic(auto, unfolding(crate::specs::Expressions::count_at))]
+fn count_at(alloc: Global, tokens: &[Token], room: u32) -> Result<(Boxed<Expr>, &[Token]), Stop>
+    ensures { Gives (λ x. (x.0, x.1.now)) result (count_at (expr_in room) tokens.now) }
+{
+    let (word, rest) = one(tokens, Class::Counting)?;
+    after_one(rest, Class::Symbol(symbols::OPEN_PAREN))?;
+    let (operand, rest) = expr_in(alloc, rest, Level::Compare, room)?;
+    let rest = after_one(rest, Class::Symbol(symbols::CLOSE_PAREN))?;
+    let mut args = Items::new(alloc);
+    args.push(operand.into_inner())?;
+    Ok((Boxed::new(alloc, Expr::Call { word, args })?, rest))
+}
+
+// What begins with a name: a call where `(` is the next token, else a place.
+#[cycle(expressions)]
+#[tactic(auto, unfolding(crate::specs::Expressions::name_at))]
+fn name_at(alloc: Global, tokens: &[Token], room: u32) -> Result<(Boxed<Expr>, &[Token]), Stop>
+    ensures { Gives (λ x. (x.0, x.1.now)) result (name_at (expr_in room) room tokens.now) }
+{
+    if calls(tokens, Class::Choosing) {
+        choose_at(alloc, tokens, room)
+    } else if calls(tokens, Class::Counting) {
+        count_at(alloc, tokens, room)
+    } else {
+        place_at(alloc, tokens, room)
+    }
 }
 
 #[cycle(expressions)]
 #[tactic(auto, unfolding(crate::specs::Expressions::paren_at))]
-fn paren_at(alloc: Global, tokens: &[Token], room: u32) -> Result<(Expr, &[Token]), Stop>
+fn paren_at(alloc: Global, tokens: &[Token], room: u32) -> Result<(Boxed<Expr>, &[Token]), Stop>
     ensures { Gives (λ x. (x.0, x.1.now)) result (paren_at (expr_in room) tokens.now) }
 {
     let (bracket, _) = one(tokens, Class::Symbol(symbols::OPEN_PAREN))?;
     let (inner, rest) = expr_in(alloc, tokens, Level::Compare, room)?;
     let rest = after_one(rest, Class::Symbol(symbols::CLOSE_PAREN))?;
-    let inner = Boxed::new(alloc, inner)?;
-    Ok((Expr::Paren { bracket, inner }, rest))
+    Ok((Boxed::new(alloc, Expr::Paren { bracket, inner })?, rest))
 }
 
 #[cycle(expressions)]
 #[tactic(auto, unfolding(crate::specs::Expressions::not_at))]
-fn not_at(alloc: Global, tokens: &[Token], room: u32) -> Result<(Expr, &[Token]), Stop>
+fn not_at(alloc: Global, tokens: &[Token], room: u32) -> Result<(Boxed<Expr>, &[Token]), Stop>
     ensures { Gives (λ x. (x.0, x.1.now)) result (not_at (expr_in room) tokens.now) }
 {
     let (op, _) = one(tokens, Class::Symbol(symbols::NOT))?;
-    let (operand, rest) = expr_in(alloc, tokens, Level::Unary, room)?;
-    let of = Boxed::new(alloc, operand)?;
-    Ok((Expr::Not { op, of }, rest))
+    let (of, rest) = expr_in(alloc, tokens, Level::Unary, room)?;
+    Ok((Boxed::new(alloc, Expr::Not { op, of })?, rest))
 }
 
 // An operand: what it is, is seen from its first token.
 #[inline(never)]
 #[cycle(expressions)]
 #[tactic(auto, unfolding(crate::specs::Expressions::unary_at))]
-fn unary_at(alloc: Global, tokens: &[Token], room: u32) -> Result<(Expr, &[Token]), Stop>
+fn unary_at(alloc: Global, tokens: &[Token], room: u32) -> Result<(Boxed<Expr>, &[Token]), Stop>
     ensures { Gives (λ x. (x.0, x.1.now)) result (unary_at (expr_in room) room tokens.now) }
 {
     if begins(tokens, Class::Symbol(symbols::NOT)) {
         not_at(alloc, tokens, room)
     } else if begins(tokens, Class::Name) {
-        place_at(alloc, tokens, room)
+        name_at(alloc, tokens, room)
     } else if begins(tokens, Class::Word(Keyword::Lit)) {
         lit_at(alloc, tokens, room)
     } else if begins(tokens, Class::Word(Keyword::Resize)) {
@@ -170,7 +219,7 @@ fn expr_in(
     tokens: &[Token],
     level: Level,
     room: u32,
-) -> Result<(Expr, &[Token]), Stop>
+) -> Result<(Boxed<Expr>, &[Token]), Stop>
     ensures { Gives (λ x. (x.0, x.1.now)) result (expr_in room (rank level) tokens.now) }
 {
     if room == 0 {
@@ -203,21 +252,24 @@ fn expr_operands(
         }
         let (op, rest) = one(left, operators)?;
         let (value, rest) = expr_at(alloc, rest, operand, room)?;
-        operands.push((op, value))?;
+        operands.push((op, value.into_inner()))?;
         left = rest;
     }
     Ok((operands, left))
 }
 
 // An operand alone, or a chain.
-fn chain_of(alloc: Global, first: Expr, rest: Items<(Token, Expr)>) -> Result<Expr, Stop>
+fn chain_of(
+    alloc: Global,
+    first: Boxed<Expr>,
+    rest: Items<(Token, Expr)>,
+) -> Result<Boxed<Expr>, Stop>
     ensures { Gives (λ x. x) result (Ok (chain_of first rest)) }
 {
     if rest.is_empty() {
         Ok(first)
     } else {
-        let first = Boxed::new(alloc, first)?;
-        Ok(Expr::Chain { first, rest })
+        Ok(Boxed::new(alloc, Expr::Chain { first, rest })?)
     }
 }
 
@@ -231,7 +283,7 @@ fn chain_at(
     operand: Level,
     operators: Class,
     room: u32,
-) -> Result<(Expr, &[Token]), Stop>
+) -> Result<(Boxed<Expr>, &[Token]), Stop>
     ensures { Gives (λ x. (x.0, x.1.now)) result (chain_at (expr_at room (rank operand)) operators tokens.now) }
 {
     let (first, left) = expr_at(alloc, tokens, operand, room)?;
@@ -240,14 +292,17 @@ fn chain_at(
 }
 
 // An operand alone, or a chain of shifts.
-fn shift_of(alloc: Global, first: Expr, rest: Items<(Token, ConstExpr)>) -> Result<Expr, Stop>
+fn shift_of(
+    alloc: Global,
+    first: Boxed<Expr>,
+    rest: Items<(Token, ConstExpr)>,
+) -> Result<Boxed<Expr>, Stop>
     ensures { Gives (λ x. x) result (Ok (shift_of first rest)) }
 {
     if rest.is_empty() {
         Ok(first)
     } else {
-        let first = Boxed::new(alloc, first)?;
-        Ok(Expr::Shift { first, rest })
+        Ok(Boxed::new(alloc, Expr::Shift { first, rest })?)
     }
 }
 
@@ -255,7 +310,7 @@ fn shift_of(alloc: Global, first: Expr, rest: Items<(Token, ConstExpr)>) -> Resu
 #[inline(never)]
 #[cycle(expressions)]
 #[tactic(auto, unfolding(crate::specs::Expressions::shift_at))]
-fn shift_at(alloc: Global, tokens: &[Token], room: u32) -> Result<(Expr, &[Token]), Stop>
+fn shift_at(alloc: Global, tokens: &[Token], room: u32) -> Result<(Boxed<Expr>, &[Token]), Stop>
     ensures { Gives (λ x. (x.0, x.1.now)) result (shift_at (expr_at room 2) room tokens.now) }
 {
     let (first, left) = expr_at(alloc, tokens, Level::Sum, room)?;
@@ -264,20 +319,24 @@ fn shift_at(alloc: Global, tokens: &[Token], room: u32) -> Result<(Expr, &[Token
 }
 
 // A chain of one operator.
-fn comparison(alloc: Global, first: Expr, op: Token, second: Expr) -> Result<Expr, Stop>
+fn comparison(
+    alloc: Global,
+    first: Boxed<Expr>,
+    op: Token,
+    second: Boxed<Expr>,
+) -> Result<Boxed<Expr>, Stop>
     ensures { Gives (λ x. x) result (Ok (chain_of first ((op, second) ∷ []))) }
 {
     let mut rest = Items::new(alloc);
-    rest.push((op, second))?;
-    let first = Boxed::new(alloc, first)?;
-    Ok(Expr::Chain { first, rest })
+    rest.push((op, second.into_inner()))?;
+    Ok(Boxed::new(alloc, Expr::Chain { first, rest })?)
 }
 
 // One comparison at most.
 #[inline(never)]
 #[cycle(expressions)]
 #[tactic(auto, unfolding(crate::specs::Expressions::compare_at, crate::specs::Expressions::compare_from))]
-fn compare_at(alloc: Global, tokens: &[Token], room: u32) -> Result<(Expr, &[Token]), Stop>
+fn compare_at(alloc: Global, tokens: &[Token], room: u32) -> Result<(Boxed<Expr>, &[Token]), Stop>
     ensures { Gives (λ x. (x.0, x.1.now)) result (compare_at (expr_at room 6) tokens.now) }
 {
     let (first, left) = expr_at(alloc, tokens, Level::Or, room)?;
@@ -298,18 +357,12 @@ pub fn expr_at(
     tokens: &[Token],
     level: Level,
     room: u32,
-) -> Result<(Expr, &[Token]), Stop>
+) -> Result<(Boxed<Expr>, &[Token]), Stop>
     ensures { Gives (λ x. (x.0, x.1.now)) result (expr_at room (rank level) tokens.now) }
 {
     match level {
         Level::Unary => unary_at(alloc, tokens, room),
-        Level::Product => chain_at(
-            alloc,
-            tokens,
-            Level::Unary,
-            Class::Symbol(symbols::TIMES),
-            room,
-        ),
+        Level::Product => chain_at(alloc, tokens, Level::Unary, Class::Scaling, room),
         Level::Sum => chain_at(alloc, tokens, Level::Product, Class::Adding, room),
         Level::Shift => shift_at(alloc, tokens, room),
         Level::And => chain_at(

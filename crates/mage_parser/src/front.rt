@@ -1,9 +1,9 @@
 // The first token.
 ghost use Rattle.std.specs.Prelude.{◌≡◌, List, Result};
-ghost use Rattle.mage_parser.specs.Reads.{Gives, begins, one, after_one};
+ghost use Rattle.mage_parser.specs.Reads.{Gives, begins, calls, one, after_one};
 
 use crate::stop::Stop;
-use mage_lex::Token;
+use mage_lex::{Token, symbols};
 use mage_tree::{Class, fits};
 
 // Whether the first token is of the class.
@@ -13,6 +13,17 @@ pub fn begins(tokens: &[Token], class: Class) -> bool
 {
     match tokens.split_first() {
         Some((token, _)) => fits(token, class),
+        None => false,
+    }
+}
+
+// Whether the first token is a word of the class and `(` is the next.
+#[tactic(auto, unfolding(crate::specs::Reads::calls))]
+pub fn calls(tokens: &[Token], class: Class) -> bool
+    ensures { result ≡ calls class tokens.now }
+{
+    match tokens.split_first() {
+        Some((word, rest)) => fits(word, class) && begins(rest, Class::Symbol(symbols::OPEN_PAREN)),
         None => false,
     }
 }

@@ -1,8 +1,9 @@
 // What holds of the grammar, and of where reading stops.
 ghost use Rattle.std.specs.Prelude.{List};
 ghost use Rattle.mage_lex.specs.declared.token.Token.{Token as TokenValue};
-ghost use Rattle.mage_tree.specs.Laws.{HasOneTree, StopsAtFirstWrong};
+ghost use Rattle.mage_tree.specs.Laws.{HasOneTree};
 ghost use Rattle.mage_tree.specs.FirstFault.{HasDepthOfRoom, HasOneAnswer};
+ghost use Rattle.mage_parser.specs.Laws.{StopsAtFirstWrong, ReadingIsTheGrammar};
 
 /// At most one tree belongs to a list of tokens.
 pub fn one_tree()
@@ -24,4 +25,11 @@ pub fn depth_of_room()
 /// Tokens have a source within the depth or a first fault, never both, and one fault at most.
 pub fn one_answer()
     ensures { (tokens : List TokenValue) → HasOneAnswer tokens }
+{}
+
+/// Reading is the grammar: of any tokens of any text it gives a source exactly where the grammar has that source within
+/// the depth, and a fault exactly where it is the first fault of the tokens, `TooDeep` included.
+#[tactic(auto, using(crate::proofs::ReadingLaw::reading_is_the_grammar))]
+pub fn reading_is_the_grammar()
+    ensures { ReadingIsTheGrammar }
 {}

@@ -1,21 +1,15 @@
-//! The tree of a source, and the reader of the language.
+//! The reader of the language: from tokens to the tree of a source.
 #![tactic(auto)]
 
+mod blocks;
+mod constants;
+mod expressions;
+mod front;
 mod laws;
-mod parser;
-mod printer;
-mod source;
-mod tree;
-mod words;
+mod level;
+mod statements;
+mod stop;
+mod whole;
 
-pub use laws::{depth_of_room, one_answer, one_tree, stops_at_first_wrong};
-pub use parser::parse;
-pub use printer::print;
-pub use source::Source;
-pub use tree::{ConstExpr, Expr, Item, Stmt};
-pub use words::{bytes_of, width_of_type};
-
-#[cfg(test)]
-mod print_tests;
-#[cfg(test)]
-mod tests;
+pub use laws::{depth_of_room, one_answer, one_tree, reading_is_the_grammar, stops_at_first_wrong};
+pub use whole::parse;

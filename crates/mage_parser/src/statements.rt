@@ -3,13 +3,13 @@ ghost use Rattle.std.specs.Prelude.{◌≡◌, ◌≤◌, ℕ, List, [], ◌∷�
 ghost use Rattle.mage_parser.specs.Reads.{Gives};
 ghost use Rattle.mage_parser.specs.Statements.{constant_at, input_at, let_at, array_at, assign_at, move_at, output_at};
 
-use crate::Stmt;
-use crate::parser::class::{Class, ConstLevel, Keyword, Level};
-use crate::parser::constants::const_at;
-use crate::parser::expressions::{bracketed, expr_at, index_at, item_at};
-use crate::parser::front::{after_one, begins, one};
-use crate::parser::stop::Stop;
+use crate::constants::const_at;
+use crate::expressions::{bracketed, expr_at, index_at, item_at};
+use crate::front::{after_one, begins, one};
+use crate::level::{ConstLevel, Level};
+use crate::stop::Stop;
 use mage_lex::{Token, symbols};
+use mage_tree::{Class, Keyword, Stmt};
 use std::alloc::Global;
 
 #[tactic(auto, unfolding(crate::specs::Statements::constant_at))]
@@ -21,6 +21,7 @@ pub fn constant_at(alloc: Global, tokens: &[Token], room: u32) -> Result<(Stmt, 
     let rest = after_one(rest, Class::Symbol(symbols::ASSIGN))?;
     let (value, rest) = const_at(alloc, rest, ConstLevel::Sum, room)?;
     let rest = after_one(rest, Class::Symbol(symbols::SEMICOLON))?;
+    let value = value.into_inner();
     Ok((Stmt::Constant { word, name, value }, rest))
 }
 
@@ -67,7 +68,7 @@ pub fn array_at(alloc: Global, tokens: &[Token], room: u32) -> Result<(Stmt, &[T
     let (name, rest) = one(rest, Class::Name)?;
     let rest = after_one(rest, Class::Symbol(symbols::COLON))?;
     let (ty, rest) = one(rest, Class::Type)?;
-    let (length, rest) = bracketed(alloc, rest, room)?;
+    let ((bracket, length), rest) = bracketed(alloc, rest, room)?;
     let (eq, rest) = one(rest, Class::Symbol(symbols::ASSIGN))?;
     let (value, rest) = expr_at(alloc, rest, Level::Compare, room)?;
     let rest = after_one(rest, Class::Symbol(symbols::SEMICOLON))?;
@@ -76,7 +77,7 @@ pub fn array_at(alloc: Global, tokens: &[Token], room: u32) -> Result<(Stmt, &[T
             word,
             name,
             ty,
-            length,
+            length: (bracket, length.into_inner()),
             eq,
             value,
         },
@@ -92,6 +93,7 @@ pub fn assign_at(alloc: Global, tokens: &[Token], room: u32) -> Result<(Stmt, &[
     let (eq, rest) = one(rest, Class::Symbol(symbols::ASSIGN))?;
     let (value, rest) = expr_at(alloc, rest, Level::Compare, room)?;
     let rest = after_one(rest, Class::Symbol(symbols::SEMICOLON))?;
+    let place = place.into_inner();
     Ok((Stmt::Assign { place, eq, value }, rest))
 }
 
@@ -104,6 +106,7 @@ pub fn move_at(alloc: Global, tokens: &[Token], room: u32) -> Result<(Stmt, &[To
     let rest = after_one(rest, Class::Symbol(symbols::ASSIGN))?;
     let (place, rest) = item_at(alloc, rest, room)?;
     let rest = after_one(rest, Class::Symbol(symbols::SEMICOLON))?;
+    let place = place.into_inner();
     Ok((Stmt::Move { word, name, place }, rest))
 }
 

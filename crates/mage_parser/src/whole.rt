@@ -5,17 +5,17 @@ ghost use Rattle.mage_lex.specs.Tokens.{tokens_of};
 ghost use Rattle.mage_parser.specs.Reads.{Gives};
 ghost use Rattle.mage_lex.specs.declared.token.Token.{Token as TokenValue};
 ghost use Rattle.mage_tree.specs.declared.tree.Stmt.{Stmt as StmtValue};
-ghost use Rattle.mage_tree.specs.Sources.{IsSource};
+ghost use Rattle.mage_lex.specs.Limits.{MOST_BYTES};
+ghost use Rattle.mage_tree.specs.Sources.{MOST_DEPTH as most_depth, IsSource};
 ghost use Rattle.mage_parser.specs.Statements.{workers_at, at_end, source_at};
-ghost use Rattle.mage_parser.specs.Faults.{fault_at, last_of, fault_of, parsed, IsFaultOf};
-ghost use Rattle.mage_tree.specs.FirstFault.{IsFirstFault, IsFirstFaultOf, IsThisOrMemory};
+ghost use Rattle.mage_parser.specs.Faults.{last_of, fault_of, parsed, IsFaultOf};
+ghost use Rattle.mage_tree.specs.FirstFault.{fault_at, IsFirstFault, IsFirstFaultOf, IsThisOrMemory};
 
-use crate::parser::blocks::stmts_at;
-use crate::parser::class::{Class, Keyword};
-use crate::parser::front::{after_one, begins, one};
-use crate::parser::stop::Stop;
-use crate::{Source, Stmt};
+use crate::blocks::stmts_at;
+use crate::front::{after_one, begins, one};
+use crate::stop::Stop;
 use mage_lex::{LangFault, LangKind, Token, symbols};
+use mage_tree::{Class, Keyword, Source, Stmt};
 use sqlite_items::Items;
 use std::alloc::Global;
 
@@ -66,7 +66,7 @@ fn source_at(
 // The line just after the last byte.
 #[tactic(auto, unfolding(mage_lex::specs::Places::line_after))]
 fn end_line(text: &[u8]) -> u32
-    requires { length text.now ≤ 1048576 }
+    requires { length text.now ≤ MOST_BYTES }
     ensures { result ≡ line_after text.now }
 {
     1 + text.iter().filter(|byte| **byte == b'\n').count() as u32
@@ -74,7 +74,7 @@ fn end_line(text: &[u8]) -> u32
 
 // Its column.
 fn end_column(text: &[u8]) -> u32
-    requires { length text.now ≤ 1048576 }
+    requires { length text.now ≤ MOST_BYTES }
     ensures { result ≡ column_after text.now }
 {
     let mut column = 1;
@@ -86,7 +86,7 @@ fn end_column(text: &[u8]) -> u32
 
 // The fault of this kind, where so many tokens are left.
 fn fault_at(text: &[u8], tokens: &[Token], kind: LangKind, left: usize) -> LangFault
-    requires { length text.now ≤ 1048576 }
+    requires { length text.now ≤ MOST_BYTES }
     ensures { result ≡ fault_at kind text.now (last_of tokens.now left) }
 {
     let index = tokens.len().saturating_sub(left);
@@ -106,7 +106,7 @@ fn fault_at(text: &[u8], tokens: &[Token], kind: LangKind, left: usize) -> LangF
 
 // The fault where reading stops.
 fn fault_of(text: &[u8], tokens: &[Token], stop: Stop) -> LangFault
-    requires { length text.now ≤ 1048576 }
+    requires { length text.now ≤ MOST_BYTES }
     ensures { result ≡ fault_of text.now tokens.now stop }
 {
     match stop {
@@ -121,15 +121,15 @@ fn fault_of(text: &[u8], tokens: &[Token], stop: Stop) -> LangFault
 /// `Syntax` at the first token with which no source of the grammar goes on, or just after the last byte where the
 /// tokens end too early; `TooDeep` at the token at which more than 100 brackets and signs are open at once; and
 /// `Memory` where there is none for the tree.
-#[tactic(auto, using(crate::proofs::Lexed::lexed_short, crate::proofs::Whole::found, crate::proofs::Whole::found_some, crate::proofs::Whole::refused), unfolding(crate::specs::Faults::parsed))]
+#[tactic(auto, using(crate::proofs::Lexed::lexed_short, crate::proofs::Answered::found, crate::proofs::Answered::found_some, crate::proofs::Answered::refused), unfolding(crate::specs::Faults::parsed))]
 pub fn parse(alloc: Global, text: &[u8], tokens: &[Token]) -> Result<Source, LangFault>
     requires { tokens_of text.now ≡ Ok tokens.now }
     // What is read is the tree of the tokens.
-    ensures tree { IfOk result (λ source. IsSource 100 source.workers source.body tokens.now) }
+    ensures tree { IfOk result (λ source. IsSource most_depth source.workers source.body tokens.now) }
     // What is read is just what reading gives.
     ensures exact { IfOk result (λ source. parsed text.now tokens.now ≡ Ok (source.workers, source.body)) }
     // What is a source is read, unless memory runs out.
-    ensures only { (workers : Option TokenValue) (body : List StmtValue) → IsSource 100 workers body tokens.now →
+    ensures only { (workers : Option TokenValue) (body : List StmtValue) → IsSource most_depth workers body tokens.now →
         IfErr result (λ fault. fault ≡ LangFault.Memory) }
     // Where reading stops, if it does.
     ensures fault { IfErr result (IsFaultOf (parsed text.now tokens.now)) }

@@ -23,8 +23,8 @@ use Rattle.mage_tree.specs.declared.tree.Stmt.{Stmt}
 use Rattle.mage_tree.specs.declared.tree.Stmt.TheVariants as stmt
 use Rattle.mage_tree.specs.Classes.{text_of, is_word_with, is_symbol_kind}
 use Rattle.mage_tree.specs.Grammar.{Is, IsConst, AreOperands, IsIndex, IsItem, AreAmounts, IsExpr, AreExprs, IsStmt, IsBlock, IsElse, AreStmts}
-use Rattle.mage_tree.specs.Sources.{IsSource}
-use Rattle.mage_printer.specs.Made.{tokens_made, terms_made, const_layer, const_made, bracketed_made, index_made, item_made, args_made, expr_layer, expr_made, head_made, value_made, constant_made, input_made, let_made, array_made, assign_made, move_made, output_made, for_made, if_made, block_made, else_made, stmt_layer, stmt_made, workers_made, source_made}
+use Rattle.mage_tree.specs.Sources.{MOST_DEPTH, IsSource}
+use Rattle.mage_printer.specs.Made.{CONST_NODES, EXPR_NODES, STMT_NODES, tokens_made, terms_made, const_layer, const_made, bracketed_made, index_made, item_made, args_made, call_made, expr_layer, expr_made, head_made, value_made, constant_made, input_made, let_made, array_made, assign_made, move_made, output_made, for_made, if_made, block_made, else_made, stmt_layer, stmt_made, workers_made, source_made}
 use Rattle.mage_tree.proofs.Apart.{by_kind}
 use Rattle.mage_tree.proofs.Opened as opened
 
@@ -127,34 +127,34 @@ mutual
   operands_is put depth (AreOperands.more {op} {operand} {rest} is d r) h =
       named (terms_more put (const_made put depth) op operand rest) (then (then (a_token put op _) (const_is put depth d (omega arith))) (operands_is put depth r h))
 
-bracketed_is : {A : Type 0} (put : TokenKind → List A) {room : ℕ} {size : Token × ConstExpr} {before after : List Token} → IsIndex room (Some size) before after → room ≤ 100 →
+bracketed_is : {A : Type 0} (put : TokenKind → List A) {room : ℕ} {size : Token × ConstExpr} {before after : List Token} → IsIndex room (Some size) before after → room ≤ MOST_DEPTH →
     Begins (tokens_made put before) (bracketed_made put size) (tokens_made put after)
 unfolding bracketed_made
-bracketed_is put (IsIndex.present {open_token} is d shut) h = then (then (a_token put open_token _) (const_is put 404 d (omega arith))) (a_symbol put CLOSE_BRACKET _ _ shut)
+bracketed_is put (IsIndex.present {open_token} is d shut) h = then (then (a_token put open_token _) (const_is put CONST_NODES d (omega arith))) (a_symbol put CLOSE_BRACKET _ _ shut)
 
-index_is : {A : Type 0} (put : TokenKind → List A) {room : ℕ} {size : Option (Token × ConstExpr)} {before after : List Token} → IsIndex room size before after → room ≤ 100 →
+index_is : {A : Type 0} (put : TokenKind → List A) {room : ℕ} {size : Option (Token × ConstExpr)} {before after : List Token} → IsIndex room size before after → room ≤ MOST_DEPTH →
     Begins (tokens_made put before) (index_made put size) (tokens_made put after)
 unfolding index_made bracketed_made
 index_is put IsIndex.absent h = nothing
-index_is put (IsIndex.present {open_token} is d shut) h = then (then (a_token put open_token _) (const_is put 404 d (omega arith))) (a_symbol put CLOSE_BRACKET _ _ shut)
+index_is put (IsIndex.present {open_token} is d shut) h = then (then (a_token put open_token _) (const_is put CONST_NODES d (omega arith))) (a_symbol put CLOSE_BRACKET _ _ shut)
 
-item_is : {A : Type 0} (put : TokenKind → List A) {room : ℕ} {place : Item} {before after : List Token} → IsItem room place before after → room ≤ 100 →
+item_is : {A : Type 0} (put : TokenKind → List A) {room : ℕ} {place : Item} {before after : List Token} → IsItem room place before after → room ≤ MOST_DEPTH →
     Begins (tokens_made put before) (item_made put place) (tokens_made put after)
 unfolding item_made
 item_is put (IsItem.place {name} is d) h = then (a_token put name _) (index_is put d h)
 
-amounts_is : {A : Type 0} (put : TokenKind → List A) {room : ℕ} {rest : List (Token × ConstExpr)} {before after : List Token} → AreAmounts room rest before after → room ≤ 100 →
-    Begins (tokens_made put before) (terms_made put (const_made put 404) rest) (tokens_made put after)
+amounts_is : {A : Type 0} (put : TokenKind → List A) {room : ℕ} {rest : List (Token × ConstExpr)} {before after : List Token} → AreAmounts room rest before after → room ≤ MOST_DEPTH →
+    Begins (tokens_made put before) (terms_made put (const_made put CONST_NODES) rest) (tokens_made put after)
 amounts_is put AreAmounts.none h = nothing
 amounts_is put (AreAmounts.more {op} {amount} {rest} is d r) h =
-    named (terms_more put (const_made put 404) op amount rest) (then (then (a_token put op _) (const_is put 404 d (omega arith))) (amounts_is put r h))
+    named (terms_more put (const_made put CONST_NODES) op amount rest) (then (then (a_token put op _) (const_is put CONST_NODES d (omega arith))) (amounts_is put r h))
 
 -- the nodes of an expression
 chain_made : {A : Type 0} (put : TokenKind → List A) (depth : ℕ) (first : Expr) (rest : List (Token × Expr)) → expr_made put (suc depth) (expr.Chain first rest) ≡ expr_made put depth first ++ terms_made put (expr_made put depth) rest
 unfolding expr_made
 chain_made put depth first rest = ap (expr_layer put (expr_made put depth)) (opened.expr_chain first rest)
 
-shift_made : {A : Type 0} (put : TokenKind → List A) (depth : ℕ) (first : Expr) (rest : List (Token × ConstExpr)) → expr_made put (suc depth) (expr.Shift first rest) ≡ expr_made put depth first ++ terms_made put (const_made put 404) rest
+shift_made : {A : Type 0} (put : TokenKind → List A) (depth : ℕ) (first : Expr) (rest : List (Token × ConstExpr)) → expr_made put (suc depth) (expr.Shift first rest) ≡ expr_made put depth first ++ terms_made put (const_made put CONST_NODES) rest
 unfolding expr_made
 shift_made put depth first rest = ap (expr_layer put (expr_made put depth)) (opened.expr_shift first rest)
 
@@ -170,13 +170,17 @@ paren_made : {A : Type 0} (put : TokenKind → List A) (depth : ℕ) (bracket : 
 unfolding expr_made
 paren_made put depth bracket inner = ap (expr_layer put (expr_made put depth)) (opened.expr_paren bracket inner)
 
-lit_made : {A : Type 0} (put : TokenKind → List A) (depth : ℕ) (word ty : Token) (value : ConstExpr) → expr_made put (suc depth) (expr.Lit word ty value) ≡ head_made put word ty 7 ++ const_made put 404 value ++ put (kinds.Symbol CLOSE_PAREN)
+lit_made : {A : Type 0} (put : TokenKind → List A) (depth : ℕ) (word ty : Token) (value : ConstExpr) → expr_made put (suc depth) (expr.Lit word ty value) ≡ head_made put word ty OPEN_PAREN ++ const_made put CONST_NODES value ++ put (kinds.Symbol CLOSE_PAREN)
 unfolding expr_made
 lit_made put depth word ty value = ap (expr_layer put (expr_made put depth)) (opened.expr_lit word ty value)
 
-resize_made : {A : Type 0} (put : TokenKind → List A) (depth : ℕ) (word ty : Token) (operand : Expr) → expr_made put (suc depth) (expr.Resize word ty operand) ≡ head_made put word ty 7 ++ expr_made put depth operand ++ put (kinds.Symbol CLOSE_PAREN)
+resize_made : {A : Type 0} (put : TokenKind → List A) (depth : ℕ) (word ty : Token) (operand : Expr) → expr_made put (suc depth) (expr.Resize word ty operand) ≡ head_made put word ty OPEN_PAREN ++ expr_made put depth operand ++ put (kinds.Symbol CLOSE_PAREN)
 unfolding expr_made
 resize_made put depth word ty operand = ap (expr_layer put (expr_made put depth)) (opened.expr_resize word ty operand)
+
+a_call_made : {A : Type 0} (put : TokenKind → List A) (depth : ℕ) (word : Token) (args : List Expr) → expr_made put (suc depth) (expr.Call word args) ≡ call_made put (expr_made put depth) word args
+unfolding expr_made
+a_call_made put depth word args = ap (expr_layer put (expr_made put depth)) (opened.expr_call word args)
 
 mux_made : {A : Type 0} (put : TokenKind → List A) (depth : ℕ) (word : Token) (args : List Expr) → expr_made put (suc depth) (expr.Mux word args) ≡ put word.kind ++ put (kinds.Symbol OPEN_PAREN) ++ args_made put (expr_made put depth) args ++ put (kinds.Symbol CLOSE_PAREN)
 unfolding expr_made
@@ -193,15 +197,23 @@ three_made : {A : Type 0} (put : TokenKind → List A) (inner : Expr → List A)
 three_made put inner first second third =
     ap (λ l. inner first ++ l) (flat_map-cons (λ (arg : Expr). put (kinds.Symbol COMMA) ++ inner arg) second (third ∷ []) ∙ ap (λ l. (put (kinds.Symbol COMMA) ++ inner second) ++ l) (flat_map-cons (λ (arg : Expr). put (kinds.Symbol COMMA) ++ inner arg) third []))
 
+-- one argument, and two
+one_made : {A : Type 0} (put : TokenKind → List A) (inner : Expr → List A) (first : Expr) → args_made put inner (first ∷ []) ≡ inner first ++ []
+one_made put inner first = refl
+
+two_made : {A : Type 0} (put : TokenKind → List A) (inner : Expr → List A) (first second : Expr) →
+    args_made put inner (first ∷ second ∷ []) ≡ inner first ++ ((put (kinds.Symbol COMMA) ++ inner second) ++ [])
+two_made put inner first second = ap (λ l. inner first ++ l) (flat_map-cons (λ (arg : Expr). put (kinds.Symbol COMMA) ++ inner arg) second [])
+
 mutual
-  expr_is : {A : Type 0} (put : TokenKind → List A) {level room : ℕ} {e : Expr} {before after : List Token} (depth : ℕ) → IsExpr level room e before after → room ≤ 100 → 8 * room + level < depth →
+  expr_is : {A : Type 0} (put : TokenKind → List A) {level room : ℕ} {e : Expr} {before after : List Token} (depth : ℕ) → IsExpr level room e before after → room ≤ MOST_DEPTH → 8 * room + level < depth →
       Begins (tokens_made put before) (expr_made put depth e) (tokens_made put after)
   expr_is put zero d m h = absurd (omega arith)
   expr_is put (suc depth) (IsExpr.item {place} d) m h = named (place_made put depth place) (item_is put d m)
   expr_is put (suc depth) (IsExpr.paren {open_token} {inner} is d shut) m h =
       named (paren_made put depth open_token inner) (then (then (a_token put open_token _) (expr_is put depth d (omega arith) (omega arith))) (a_symbol put CLOSE_PAREN _ _ shut))
   expr_is put (suc depth) (IsExpr.lit {word} {ty} {value} w t o d shut) m h =
-      named (lit_made put depth word ty value) (then (then (head_is put OPEN_PAREN word ty _ _ o) (const_is put 404 d (omega arith))) (a_symbol put CLOSE_PAREN _ _ shut))
+      named (lit_made put depth word ty value) (then (then (head_is put OPEN_PAREN word ty _ _ o) (const_is put CONST_NODES d (omega arith))) (a_symbol put CLOSE_PAREN _ _ shut))
   expr_is put (suc depth) (IsExpr.resize {word} {ty} {operand} w t o d shut) m h =
       named (resize_made put depth word ty operand) (then (then (head_is put OPEN_PAREN word ty _ _ o) (expr_is put depth d (omega arith) (omega arith))) (a_symbol put CLOSE_PAREN _ _ shut))
   expr_is put (suc depth) (IsExpr.mux {word} {condition} {yes} {no} w o a p b q c shut) m h =
@@ -209,6 +221,15 @@ mutual
       (named (three_made put (expr_made put depth) condition yes no) (then (expr_is put depth a (omega arith) (omega arith)) (then
       (then (a_symbol put COMMA _ _ p) (expr_is put depth b (omega arith) (omega arith))) (then
       (then (a_symbol put COMMA _ _ q) (expr_is put depth c (omega arith) (omega arith))) nothing)))))
+      (a_symbol put CLOSE_PAREN _ _ shut))
+  expr_is put (suc depth) (IsExpr.choose {word} {first} {second} w o a p b shut) m h =
+      named (a_call_made put depth word (first ∷ second ∷ [])) (then (then (then (a_token put word _) (a_symbol put OPEN_PAREN _ _ o))
+      (named (two_made put (expr_made put depth) first second) (then (expr_is put depth a (omega arith) (omega arith)) (then
+      (then (a_symbol put COMMA _ _ p) (expr_is put depth b (omega arith) (omega arith))) nothing))))
+      (a_symbol put CLOSE_PAREN _ _ shut))
+  expr_is put (suc depth) (IsExpr.count {word} {operand} w o a shut) m h =
+      named (a_call_made put depth word (operand ∷ [])) (then (then (then (a_token put word _) (a_symbol put OPEN_PAREN _ _ o))
+      (named (one_made put (expr_made put depth) operand) (then (expr_is put depth a (omega arith) (omega arith)) nothing)))
       (a_symbol put CLOSE_PAREN _ _ shut))
   expr_is put (suc depth) (IsExpr.«not» {op} {operand} is d) m h =
       named (not_made put depth op operand) (then (a_token put op _) (expr_is put depth d (omega arith) (omega arith)))
@@ -220,7 +241,7 @@ mutual
   expr_is put (suc depth) (IsExpr.compare {op} {first} {second} d is s) m h =
       named (chain_made put depth first ((op, second) ∷ [])) (then (expr_is put depth d m (omega arith)) (named (terms_more put (expr_made put depth) op second []) (then (then (a_token put op _) (expr_is put depth s m (omega arith))) nothing)))
 
-  exprs_is : {A : Type 0} (put : TokenKind → List A) {level room : ℕ} {rest : List (Token × Expr)} {before after : List Token} (depth : ℕ) → AreExprs level room rest before after → room ≤ 100 → 8 * room + level < suc depth →
+  exprs_is : {A : Type 0} (put : TokenKind → List A) {level room : ℕ} {rest : List (Token × Expr)} {before after : List Token} (depth : ℕ) → AreExprs level room rest before after → room ≤ MOST_DEPTH → 8 * room + level < suc depth →
       Begins (tokens_made put before) (terms_made put (expr_made put depth) rest) (tokens_made put after)
   exprs_is put depth AreExprs.none m h = nothing
   exprs_is put depth (AreExprs.more {op} {operand} {rest} is d r) m h =
@@ -251,7 +272,7 @@ move_node : {A : Type 0} (put : TokenKind → List A) (depth : ℕ) (word name :
 unfolding stmt_made
 move_node put depth word name place = ap (stmt_layer put (stmt_made put depth)) (opened.stmt_move word name place)
 
-on_node : {A : Type 0} (put : TokenKind → List A) (depth : ℕ) (word : Token) (worker : ConstExpr) (body : List Stmt) → stmt_made put (suc depth) (stmt.On word worker body) ≡ put word.kind ++ const_made put 404 worker ++ block_made put (stmt_made put depth) body
+on_node : {A : Type 0} (put : TokenKind → List A) (depth : ℕ) (word : Token) (worker : ConstExpr) (body : List Stmt) → stmt_made put (suc depth) (stmt.On word worker body) ≡ put word.kind ++ const_made put CONST_NODES worker ++ block_made put (stmt_made put depth) body
 unfolding stmt_made
 on_node put depth word worker body = ap (stmt_layer put (stmt_made put depth)) (opened.stmt_on word worker body)
 
@@ -267,10 +288,10 @@ output_node : {A : Type 0} (put : TokenKind → List A) (depth : ℕ) (word : To
 unfolding stmt_made
 output_node put depth word value = ap (stmt_layer put (stmt_made put depth)) (opened.stmt_output word value)
 
-value_is : {A : Type 0} (put : TokenKind → List A) {room : ℕ} {e : Expr} {end : Token} {before after : List Token} → IsExpr 7 room e before (end ∷ after) → Is (class.Symbol SEMICOLON) end → room ≤ 100 →
+value_is : {A : Type 0} (put : TokenKind → List A) {room : ℕ} {e : Expr} {end : Token} {before after : List Token} → IsExpr 7 room e before (end ∷ after) → Is (class.Symbol SEMICOLON) end → room ≤ MOST_DEPTH →
     Begins (tokens_made put before) (value_made put e) (tokens_made put after)
 unfolding value_made
-value_is put d shut m = then (expr_is put 808 d m (omega arith)) (a_symbol put SEMICOLON _ _ shut)
+value_is put d shut m = then (expr_is put EXPR_NODES d m (omega arith)) (a_symbol put SEMICOLON _ _ shut)
 
 else_token : {A : Type 0} (put : TokenKind → List A) (token : Token) (after : List Token) → Is (class.Word keyword.Else) token → Begins (tokens_made put (token ∷ after)) (put (kinds.Word (codes "else"))) (tokens_made put after)
 else_token put token after is = fixed put token (kinds.Word (codes "else")) after (else_is token is)
@@ -278,11 +299,11 @@ else_token put token after is = fixed put token (kinds.Word (codes "else")) afte
 mutual
   unfolding constant_made input_made let_made array_made assign_made move_made output_made for_made if_made block_made else_made
 
-  stmt_is : {A : Type 0} (put : TokenKind → List A) {room : ℕ} {s : Stmt} {before after : List Token} (depth : ℕ) → IsStmt room s before after → room ≤ 100 → room < depth →
+  stmt_is : {A : Type 0} (put : TokenKind → List A) {room : ℕ} {s : Stmt} {before after : List Token} (depth : ℕ) → IsStmt room s before after → room ≤ MOST_DEPTH → room < depth →
       Begins (tokens_made put before) (stmt_made put depth s) (tokens_made put after)
   stmt_is put zero d m h = absurd (omega arith)
   stmt_is put (suc depth) (IsStmt.constant {word} {name} {value} w n q d shut) m h =
-      named (constant_node put depth word name value) (then (then (head_is put ASSIGN word name _ _ q) (const_is put 404 d (omega arith))) (a_symbol put SEMICOLON _ _ shut))
+      named (constant_node put depth word name value) (then (then (head_is put ASSIGN word name _ _ q) (const_is put CONST_NODES d (omega arith))) (a_symbol put SEMICOLON _ _ shut))
   stmt_is put (suc depth) (IsStmt.input {word} {party} {name} {ty} {size} w p n c t d shut) m h =
       named (input_node put depth word party name ty size) (then (then (then (then (a_token put word _) (head_is put COLON party name _ _ c)) (a_token put ty _)) (index_is put d m)) (a_symbol put SEMICOLON _ _ shut))
   stmt_is put (suc depth) (IsStmt.«let» {word} {name} {value} w n q d shut) m h =
@@ -294,37 +315,37 @@ mutual
   stmt_is put (suc depth) (IsStmt.move {word} {name} {place} w n q d shut) m h =
       named (move_node put depth word name place) (then (then (head_is put ASSIGN word name _ _ q) (item_is put d m)) (a_symbol put SEMICOLON _ _ shut))
   stmt_is put (suc depth) (IsStmt.on {word} {worker} {body} w d b) m h =
-      named (on_node put depth word worker body) (then (then (a_token put word _) (const_is put 404 d (omega arith))) (block_is put depth b m h))
+      named (on_node put depth word worker body) (then (then (a_token put word _) (const_is put CONST_NODES d (omega arith))) (block_is put depth b m h))
   stmt_is put (suc depth) (IsStmt.for {word} {name} {within} {from} {to} {body} w n i d q f b) m h =
-      named (for_node put depth word name from to body) (then (then (then (then (then (then (a_token put word _) (a_token put name _)) (fixed put within (kinds.Word (codes "in")) _ (in_is within i))) (const_is put 404 d (omega arith))) (a_symbol put DOTS _ _ q)) (const_is put 404 f (omega arith))) (block_is put depth b m h))
+      named (for_node put depth word name from to body) (then (then (then (then (then (then (a_token put word _) (a_token put name _)) (fixed put within (kinds.Word (codes "in")) _ (in_is within i))) (const_is put CONST_NODES d (omega arith))) (a_symbol put DOTS _ _ q)) (const_is put CONST_NODES f (omega arith))) (block_is put depth b m h))
   stmt_is put (suc depth) (IsStmt.choice {word} {op} {left} {right} {yes} {no} w d q f b o) m h =
-      named (if_node put depth word left op right yes no) (then (then (then (then (then (a_token put word _) (const_is put 404 d (omega arith))) (a_token put op _)) (const_is put 404 f (omega arith))) (block_is put depth b m h)) (otherwise_is put depth o m h))
+      named (if_node put depth word left op right yes no) (then (then (then (then (then (a_token put word _) (const_is put CONST_NODES d (omega arith))) (a_token put op _)) (const_is put CONST_NODES f (omega arith))) (block_is put depth b m h)) (otherwise_is put depth o m h))
   stmt_is put (suc depth) (IsStmt.output {word} {value} w d shut) m h =
       named (output_node put depth word value) (then (a_token put word _) (value_is put d shut m))
 
-  block_is : {A : Type 0} (put : TokenKind → List A) {room : ℕ} {body : List Stmt} {before after : List Token} (depth : ℕ) → IsBlock room body before after → room ≤ 100 → room < suc depth →
+  block_is : {A : Type 0} (put : TokenKind → List A) {room : ℕ} {body : List Stmt} {before after : List Token} (depth : ℕ) → IsBlock room body before after → room ≤ MOST_DEPTH → room < suc depth →
       Begins (tokens_made put before) (block_made put (stmt_made put depth) body) (tokens_made put after)
   block_is put depth (IsBlock.block o d shut) m h = then (then (a_symbol put OPEN_BRACE _ _ o) (stmts_is put depth d (omega arith) (omega arith))) (a_symbol put CLOSE_BRACE _ _ shut)
 
-  otherwise_is : {A : Type 0} (put : TokenKind → List A) {room : ℕ} {body : Option (List Stmt)} {before after : List Token} (depth : ℕ) → IsElse room body before after → room ≤ 100 → room < suc depth →
+  otherwise_is : {A : Type 0} (put : TokenKind → List A) {room : ℕ} {body : Option (List Stmt)} {before after : List Token} (depth : ℕ) → IsElse room body before after → room ≤ MOST_DEPTH → room < suc depth →
       Begins (tokens_made put before) (else_made put (stmt_made put depth) body) (tokens_made put after)
   otherwise_is put depth IsElse.nothing m h = nothing
   otherwise_is put depth (IsElse.otherwise w b) m h = then (else_token put _ _ w) (block_is put depth b m h)
 
-  stmts_is : {A : Type 0} (put : TokenKind → List A) {room : ℕ} {body : List Stmt} {before after : List Token} (depth : ℕ) → AreStmts room body before after → room ≤ 100 → room < depth →
+  stmts_is : {A : Type 0} (put : TokenKind → List A) {room : ℕ} {body : List Stmt} {before after : List Token} (depth : ℕ) → AreStmts room body before after → room ≤ MOST_DEPTH → room < depth →
       Begins (tokens_made put before) (flat_map (stmt_made put depth) body) (tokens_made put after)
   stmts_is put depth AreStmts.none m h = nothing
   stmts_is put depth (AreStmts.more {first} {rest} d r) m h =
       named (flat_map-cons (stmt_made put depth) first rest) (then (stmt_is put depth d m h) (stmts_is put depth r m h))
 
-source_begins : {A : Type 0} (put : TokenKind → List A) {workers : Option Token} {body : List Stmt} {tokens : List Token} → IsSource 100 workers body tokens →
+source_begins : {A : Type 0} (put : TokenKind → List A) {workers : Option Token} {body : List Stmt} {tokens : List Token} → IsSource MOST_DEPTH workers body tokens →
     Begins (tokens_made put tokens) (source_made put workers body) (tokens_made put [])
 unfolding source_made workers_made
 source_begins put (IsSource.counted {word} {number} w n e d) =
-    then (then (then (fixed put word (kinds.Word (codes "workers")) _ (workers_is word w)) (a_token put number _)) (a_symbol put SEMICOLON _ _ e)) (stmts_is put 101 d (omega arith) (omega arith))
-source_begins put (IsSource.uncounted d) = then nothing (stmts_is put 101 d (omega arith) (omega arith))
+    then (then (then (fixed put word (kinds.Word (codes "workers")) _ (workers_is word w)) (a_token put number _)) (a_symbol put SEMICOLON _ _ e)) (stmts_is put STMT_NODES d (omega arith) (omega arith))
+source_begins put (IsSource.uncounted d) = then nothing (stmts_is put STMT_NODES d (omega arith) (omega arith))
 
 -- what is made of a source is what is made of its tokens
-pub source_is : {A : Type 0} (put : TokenKind → List A) {workers : Option Token} {body : List Stmt} {tokens : List Token} → IsSource 100 workers body tokens → tokens_made put tokens ≡ source_made put workers body
+pub source_is : {A : Type 0} (put : TokenKind → List A) {workers : Option Token} {body : List Stmt} {tokens : List Token} → IsSource MOST_DEPTH workers body tokens → tokens_made put tokens ≡ source_made put workers body
 unfolding tokens_made
 source_is put {workers} {body} s = (source_begins put s).is ∙ append-nil (source_made put workers body)

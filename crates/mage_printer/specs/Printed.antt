@@ -2,7 +2,7 @@
 use Rattle.std.specs.Prelude.{◌≡◌, ℕ, ◌==◌, ◌||◌, List, [], ◌∷◌, ◌++◌, Ok, if◌then◌else◌}
 use Rattle.std.specs.List.{flat_map}
 use Rattle.std.specs.Fmt.{decimal}
-use Rattle.mage_lex.specs.Symbols.{symbol_bytes}
+use Rattle.mage_lex.specs.Symbols.{SEMICOLON, OPEN_BRACE, CLOSE_BRACE, symbol_bytes}
 use Rattle.mage_lex.specs.Tokens.{tokens_after}
 use Rattle.mage_lex.specs.declared.token.Token.{Token}
 use Rattle.mage_lex.specs.declared.token.TokenKind.{TokenKind}
@@ -19,7 +19,7 @@ spelling (kinds.Symbol row) = symbol_bytes row
 abbrev pub separator : TokenKind → ℕ
 separator (kinds.Word word) = 32
 separator (kinds.Number value) = 32
-separator (kinds.Symbol row) = if row == 4 || row == 11 || row == 12 then 10 else 32
+separator (kinds.Symbol row) = if row == SEMICOLON || row == OPEN_BRACE || row == CLOSE_BRACE then 10 else 32
 
 -- the two together
 unfoldable pub written : TokenKind → List ℕ

@@ -4,10 +4,10 @@ ghost use Rattle.mage_tree.specs.declared.tree.ConstExpr.{out-ConstExpr};
 ghost use Rattle.mage_printer.specs.Printed.{written};
 ghost use Rattle.mage_printer.specs.Made.{const_layer, const_made, terms_made, bracketed_made, index_made, item_made};
 
-use crate::printer::tokens::{add, add_symbol};
-use crate::{ConstExpr, Item};
+use crate::tokens::{add, add_symbol};
 use mage_base::Memory;
 use mage_lex::{Token, symbols};
+use mage_tree::{ConstExpr, Item};
 
 // More nodes than a constant within the depth has one in the other.
 pub const MOST_CONST: u32 = 404;

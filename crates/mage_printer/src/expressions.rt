@@ -1,15 +1,16 @@
 // The text of an expression.
 ghost use Rattle.std.specs.Prelude.{◌≡◌, ◌++◌, OnOk};
 ghost use Rattle.mage_lex.specs.declared.token.TokenKind.{TokenKind};
+ghost use Rattle.mage_lex.specs.Symbols.{OPEN_PAREN, CLOSE_PAREN};
 ghost use Rattle.mage_tree.specs.declared.tree.Expr.{out-Expr};
 ghost use Rattle.mage_printer.specs.Printed.{written};
-ghost use Rattle.mage_printer.specs.Made.{head_made, const_made, expr_layer, expr_made, terms_made, args_made, more_args_made};
+ghost use Rattle.mage_printer.specs.Made.{CONST_NODES, head_made, call_made, const_made, expr_layer, expr_made, terms_made, args_made, more_args_made};
 
-use crate::printer::constants::{MOST_CONST, add_const, add_const_terms, add_item};
-use crate::printer::tokens::{add, add_symbol};
-use crate::{ConstExpr, Expr};
+use crate::constants::{MOST_CONST, add_const, add_const_terms, add_item};
+use crate::tokens::{add, add_symbol};
 use mage_base::Memory;
 use mage_lex::{Token, symbols};
+use mage_tree::{ConstExpr, Expr};
 
 // More nodes than an expression within the depth has one in the other.
 pub const MOST_EXPR: u32 = 808;
@@ -27,7 +28,7 @@ fn add_typed(text: &mut Vec<u8>, word: &Token, ty: &Token) -> Result<(), Memory>
 // Adds a `lit`.
 fn add_lit(text: &mut Vec<u8>, word: &Token, ty: &Token, value: &ConstExpr) -> Result<(), Memory>
     ensures { OnOk result (text.new.items ≡ text.old.items
-        ++ (head_made written word.now ty.now 7 ++ const_made written 404 value.now ++ written (TokenKind.Symbol 8))) }
+        ++ (head_made written word.now ty.now OPEN_PAREN ++ const_made written CONST_NODES value.now ++ written (TokenKind.Symbol CLOSE_PAREN))) }
 {
     add_typed(text, word, ty)?;
     add_const(text, value, MOST_CONST)?;
@@ -77,12 +78,8 @@ fn add_node(text: &mut Vec<u8>, value: &Expr, depth: u32) -> Result<(), Memory>
             add_expr(text, of.get(), depth)?;
             add_symbol(text, symbols::CLOSE_PAREN)
         }
-        Expr::Mux { word, args } => {
-            add(text, word)?;
-            add_symbol(text, symbols::OPEN_PAREN)?;
-            add_args(text, args.as_slice(), depth)?;
-            add_symbol(text, symbols::CLOSE_PAREN)
-        }
+        Expr::Mux { word, args } => add_call(text, word, args.as_slice(), depth),
+        Expr::Call { word, args } => add_call(text, word, args.as_slice(), depth),
     }
 }
 
@@ -96,6 +93,18 @@ fn add_terms(text: &mut Vec<u8>, terms: &[(Token, Expr)], depth: u32) -> Result<
         add_expr(text, &term.1, depth)?;
     }
     Ok(())
+}
+
+// Adds a word and its arguments in brackets.
+#[cycle(expressions)]
+fn add_call(text: &mut Vec<u8>, word: &Token, args: &[Expr], depth: u32) -> Result<(), Memory>
+    ensures { OnOk result (text.new.items
+        ≡ text.old.items ++ call_made written (expr_made written depth) word.now args.now) }
+{
+    add(text, word)?;
+    add_symbol(text, symbols::OPEN_PAREN)?;
+    add_args(text, args, depth)?;
+    add_symbol(text, symbols::CLOSE_PAREN)
 }
 
 // Adds arguments with commas between them.

@@ -1,4 +1,6 @@
-// From the tree to its text.
+//! The text of a source, printed from its tree.
+#![tactic(auto)]
+
 mod constants;
 mod expressions;
 mod simple;

@@ -4,12 +4,12 @@ ghost use Rattle.mage_tree.specs.declared.tree.Stmt.{out-Stmt};
 ghost use Rattle.mage_printer.specs.Printed.{written};
 ghost use Rattle.mage_printer.specs.Made.{head_made, value_made, constant_made, input_made, let_made, array_made, assign_made, move_made, output_made, simple_made, for_made, if_made};
 
-use crate::printer::constants::{MOST_CONST, add_bracketed, add_const, add_index, add_item};
-use crate::printer::expressions::{MOST_EXPR, add_expr};
-use crate::printer::tokens::{add, add_symbol, add_word};
-use crate::{ConstExpr, Expr, Item, Stmt};
+use crate::constants::{MOST_CONST, add_bracketed, add_const, add_index, add_item};
+use crate::expressions::{MOST_EXPR, add_expr};
+use crate::tokens::{add, add_symbol, add_word};
 use mage_base::Memory;
 use mage_lex::{Token, symbols};
+use mage_tree::{ConstExpr, Expr, Item, Stmt};
 
 // Adds a word, a name and a symbol.
 #[tactic(auto, unfolding(crate::specs::Made::head_made))]
@@ -130,7 +130,7 @@ pub fn add_simple(text: &mut Vec<u8>, statement: &Stmt) -> Result<(), Memory>
             ty,
             length,
         } => add_input(text, word, party, name, ty, length),
-        Stmt::Let { word, name, value } => add_let(text, word, name, value),
+        Stmt::Let { word, name, value } => add_let(text, word, name, value.get()),
         Stmt::Array {
             word,
             name,
@@ -138,10 +138,10 @@ pub fn add_simple(text: &mut Vec<u8>, statement: &Stmt) -> Result<(), Memory>
             length,
             eq,
             value,
-        } => add_array(text, word, name, ty, length, eq, value),
-        Stmt::Assign { place, eq, value } => add_assign(text, place, eq, value),
+        } => add_array(text, word, name, ty, length, eq, value.get()),
+        Stmt::Assign { place, eq, value } => add_assign(text, place, eq, value.get()),
         Stmt::Move { word, name, place } => add_move(text, word, name, place),
-        Stmt::Output { word, value } => add_output(text, word, value),
+        Stmt::Output { word, value } => add_output(text, word, value.get()),
         Stmt::On { .. } | Stmt::For { .. } | Stmt::If { .. } => Ok(()),
     }
 }

@@ -5,12 +5,12 @@ ghost use Rattle.mage_tree.specs.declared.tree.Stmt.{out-Stmt};
 ghost use Rattle.mage_printer.specs.Printed.{written};
 ghost use Rattle.mage_printer.specs.Made.{stmt_layer, stmt_made, block_made, else_made};
 
-use crate::Stmt;
-use crate::printer::constants::{MOST_CONST, add_const};
-use crate::printer::simple::{add_for, add_if, add_simple};
-use crate::printer::tokens::{add, add_symbol, add_word};
+use crate::constants::{MOST_CONST, add_const};
+use crate::simple::{add_for, add_if, add_simple};
+use crate::tokens::{add, add_symbol, add_word};
 use mage_base::Memory;
 use mage_lex::symbols;
+use mage_tree::Stmt;
 use sqlite_items::Items;
 
 // Adds a statement.

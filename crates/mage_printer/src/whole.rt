@@ -2,15 +2,15 @@
 ghost use Rattle.std.specs.Prelude.{◌≡◌, ◌++◌, List, OnOk, IfOk};
 ghost use Rattle.std.specs.Option.{option_copied};
 ghost use Rattle.mage_lex.specs.declared.token.Token.{Token as TokenValue};
-ghost use Rattle.mage_tree.specs.Sources.{IsSource, HasTokens, kinds_of};
+ghost use Rattle.mage_tree.specs.Sources.{MOST_DEPTH, IsSource, HasTokens, kinds_of};
 ghost use Rattle.mage_printer.specs.Printed.{written, printed, HasKinds};
 ghost use Rattle.mage_printer.specs.Made.{workers_made, source_made};
 
-use crate::Source;
-use crate::printer::statements::add_stmts;
-use crate::printer::tokens::{add, add_symbol, add_word};
+use crate::statements::add_stmts;
+use crate::tokens::{add, add_symbol, add_word};
 use mage_base::Memory;
 use mage_lex::{Token, symbols};
+use mage_tree::Source;
 use std::alloc::Global;
 
 // More blocks than a source within the depth has one in the other, and the source.
@@ -49,10 +49,10 @@ fn text_of(alloc: Global, source: &Source) -> Result<Vec<u8>, Memory>
 /// `Memory` where there is none for the text. The text may be longer than the 1,048,576 bytes that `lex` takes.
 pub fn print(alloc: Global, source: &Source) -> Result<Vec<u8>, Memory>
     // The bytes are those of the tokens, each as it is spelled, and of what stands behind each.
-    ensures bytes { (tokens : List TokenValue) → IsSource 100 source.now.workers source.now.body tokens →
+    ensures bytes { (tokens : List TokenValue) → IsSource MOST_DEPTH source.now.workers source.now.body tokens →
         IfOk result (λ text. text.items ≡ printed tokens) }
     // The tokens of the text are those of the source, but for their places.
-    ensures tokens { (tokens : List TokenValue) → IsSource 100 source.now.workers source.now.body tokens →
+    ensures tokens { (tokens : List TokenValue) → IsSource MOST_DEPTH source.now.workers source.now.body tokens →
         IfOk result (λ text. HasKinds text.items (kinds_of tokens)) }
 {
     text_of(alloc, source)

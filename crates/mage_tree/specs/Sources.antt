@@ -1,7 +1,7 @@
 -- The grammar of a source. `IsSource room workers body tokens` says that the tokens are those of a source, with the
 -- number of workers where it is given, and that no more than `room` brackets and signs are open at any of them.
 use Rattle.std.specs.Prelude.{ℕ, ◌<◌, List, [], ◌∷◌, map, All, Option, None, Some}
-use Rattle.mage_lex.specs.Symbols.{SYMBOL_COUNT, SEMICOLON}
+use Rattle.mage_lex.specs.Symbols.{SEMICOLON, SYMBOL_COUNT}
 use Rattle.mage_lex.specs.Limits.{NUMBER_LIMIT}
 use Rattle.mage_lex.specs.Laws.{IsWord}
 use Rattle.mage_lex.specs.declared.token.Token.{Token}

@@ -16,6 +16,15 @@ decreases-resize_at l = 64 * l.room + 1
 abbrev pub decreases-mux_at : goal.decreases-mux_at
 decreases-mux_at l = 64 * l.room + 1
 
+abbrev pub decreases-choose_at : goal.decreases-choose_at
+decreases-choose_at l = 64 * l.room + 1
+
+abbrev pub decreases-count_at : goal.decreases-count_at
+decreases-count_at l = 64 * l.room + 1
+
+abbrev pub decreases-name_at : goal.decreases-name_at
+decreases-name_at l = 64 * l.room + 2
+
 abbrev pub decreases-paren_at : goal.decreases-paren_at
 decreases-paren_at l = 64 * l.room + 1
 

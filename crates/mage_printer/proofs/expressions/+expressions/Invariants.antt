@@ -12,6 +12,9 @@ decreases-add_node l = 8 * l.depth + 7
 abbrev pub decreases-add_terms : goal.decreases-add_terms
 decreases-add_terms l = 8 * l.depth + 1
 
+abbrev pub decreases-add_call : goal.decreases-add_call
+decreases-add_call l = 8 * l.depth + 3
+
 abbrev pub decreases-add_args : goal.decreases-add_args
 decreases-add_args l = 8 * l.depth + 2
 

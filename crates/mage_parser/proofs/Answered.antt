@@ -14,7 +14,7 @@ use Rattle.mage_parser.specs.declared.stop.Stop.{Stop}
 use Rattle.mage_parser.specs.declared.stop.Stop.TheVariants as stops
 use Rattle.mage_tree.specs.declared.tree.Stmt.{Stmt}
 use Rattle.mage_parser.specs.Reads.{Fails}
-use Rattle.mage_tree.specs.Sources.{IsSource, kinds_of, IsTokenKind, HasTokens}
+use Rattle.mage_tree.specs.Sources.{MOST_DEPTH, IsSource, kinds_of, IsTokenKind, HasTokens}
 use Rattle.mage_parser.specs.Statements.{source_at}
 use Rattle.mage_parser.specs.Faults.{fault_of}
 use Rattle.mage_parser.proofs.SoundStatements.{source_sound}
@@ -37,11 +37,11 @@ kinds_of_spelled text (token ∷ tokens) all = (kind_of_spelled token.kind _ all
 pub lexed_kinds : (text : List ℕ) (tokens : List Token) → tokens_of text ≡ Ok tokens → All IsTokenKind (kinds_of tokens)
 lexed_kinds text tokens e = All-from_recursion IsTokenKind (kinds_of tokens) (kinds_of_spelled text tokens (recursion_from_All (IsSpelled text) tokens (tokens_spelled text tokens e)))
 
-pub found_some : (text : List ℕ) (tokens : List Token) (workers : Option Token) (body : List Stmt) → tokens_of text ≡ Ok tokens → source_at 100 tokens ≡ Ok (workers, body) → HasTokens workers body
-found_some text tokens workers body l e = (tokens, found 100 tokens workers body e, lexed_kinds text tokens l)
+pub found_some : (text : List ℕ) (tokens : List Token) (workers : Option Token) (body : List Stmt) → tokens_of text ≡ Ok tokens → source_at MOST_DEPTH tokens ≡ Ok (workers, body) → HasTokens workers body
+found_some text tokens workers body l e = (tokens, found MOST_DEPTH tokens workers body e, lexed_kinds text tokens l)
 
-pub refused : (text : List ℕ) (tokens : List Token) (stop : Stop) → Fails stop (source_at 100 tokens) → (workers : Option Token) (body : List Stmt) →
-    IsSource 100 workers body tokens → fault_of text tokens stop ≡ faults.Memory
+pub refused : (text : List ℕ) (tokens : List Token) (stop : Stop) → Fails stop (source_at MOST_DEPTH tokens) → (workers : Option Token) (body : List Stmt) →
+    IsSource MOST_DEPTH workers body tokens → fault_of text tokens stop ≡ faults.Memory
 refused text tokens stops.Memory f workers body s = refl
 refused text tokens (stops.Syntax left) f workers body s = absurd (cc (sym f ∙ source_full s))
 refused text tokens (stops.TooDeep left) f workers body s = absurd (cc (sym f ∙ source_full s))

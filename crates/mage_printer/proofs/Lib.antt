@@ -1,0 +1,3 @@
+pub mod Making
+pub mod Spelled
+pub mod Printing
