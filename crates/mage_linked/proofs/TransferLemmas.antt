@@ -1,14 +1,12 @@
 -- What one worker sends to another has, one by one, the widths of what that one receives from it.
 -- Other crates cite this.
-use Rattle.std.proofs.Common.{◌≡◌, ◌≢◌, ℕ, Bool, true, false, cond, eqb, ◌&&◌, List, [], ◌∷◌, map, refl, sym, ap, ◌∙◌, subst, ⊎_elim}
+use Rattle.std.proofs.Common.{◌≡◌, ◌≢◌, ℕ, Bool, true, false, cond, eqb, ◌&&◌, ◌||◌, List, [], ◌∷◌, map, refl, sym, ap, ◌∙◌, subst, ⊎_elim}
 use Rattle.std.specs.List.{filter}
 use Rattle.std.proofs.lemmas.Bool.{cases_eq, eq-eqb, ne_eqb}
 use Rattle.mage_instr.specs.declared.instr.Instr.{Instr}
-use Rattle.mage_instr.specs.declared.op.Op.{Op}
-use Rattle.mage_instr.specs.declared.op.Op.TheVariants as op
 use Rattle.mage_linked.specs.declared.emitted.Emitted.{Emitted}
 use Rattle.mage_linked.specs.Emission.{own_instrs}
-use Rattle.mage_linked.specs.Linked.{is_transfer, IsTransfer, AreLinked}
+use Rattle.mage_linked.specs.Linked.{IsTransfer, AreLinked}
 use Rattle.mage_linked.specs.Linked.AreLinked.{nothing, alone, transfer}
 use Rattle.mage_linked.specs.Transfers.{is_send, is_recv, sent_to, received_from}
 use Rattle.mage_linked.proofs.EmissionLemmas.{own_instrs-first, own_instrs-other}
@@ -57,33 +55,9 @@ received-nothing : (from to : ℕ) (e : Emitted) (rest : List Emitted) → is_re
 received-nothing from to e rest h =
     ⊎_elim (λ is. received-first from to e rest is ∙ no_more (is_recv e.instr.op) (eqb e.instr.imm from) e.instr.width (received from to rest) h) (received-other from to e rest) (cases_eq e.worker to)
 
-true_not_false : ◌≡◌ {A = Bool} true false → ⊥
-true_not_false h = cc
-
-neither : (o : Op) → is_transfer o ≡ false → (is_send o ≡ false) × (is_recv o ≡ false)
-neither op.Input h = (refl, refl)
-neither op.Const h = (refl, refl)
-neither op.Output h = (refl, refl)
-neither op.Add h = (refl, refl)
-neither op.Sub h = (refl, refl)
-neither op.Mul h = (refl, refl)
-neither op.And h = (refl, refl)
-neither op.Or h = (refl, refl)
-neither op.Xor h = (refl, refl)
-neither op.Not h = (refl, refl)
-neither op.Eq h = (refl, refl)
-neither op.Lt h = (refl, refl)
-neither op.Mux h = (refl, refl)
-neither op.Shl h = (refl, refl)
-neither op.Shr h = (refl, refl)
-neither op.Resize h = (refl, refl)
-neither op.Send h = absurd (true_not_false h)
-neither op.Recv h = absurd (true_not_false h)
-neither op.Div h = (refl, refl)
-neither op.Rem h = (refl, refl)
-neither op.Count h = (refl, refl)
-neither op.Min h = (refl, refl)
-neither op.Max h = (refl, refl)
+either_false : (a b : Bool) → (a || b) ≡ false → (a ≡ false) × (b ≡ false)
+either_false false b h = (refl, h)
+either_false true b h = cc
 
 -- ---- a transfer
 
@@ -145,7 +119,7 @@ received-transfer workers from to send recv rest is = received-nothing from to s
 pub same_widths : (workers from to : ℕ) (emitted : List Emitted) → AreLinked workers emitted → sent from to emitted ≡ received from to emitted
 same_widths workers from to emitted nothing = refl
 same_widths workers from to emitted (alone {e = e} {others = others} is below rest) =
-    let none = neither e.instr.op is in
+    let none = either_false (is_send e.instr.op) (is_recv e.instr.op) is in
     sent-nothing from to e others none.0 ∙ same_widths workers from to others rest ∙ sym (received-nothing from to e others none.1)
 same_widths workers from to emitted (transfer {send = send} {recv = recv} {others = others} is rest) =
     sent-transfer workers from to send recv others is

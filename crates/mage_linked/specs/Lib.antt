@@ -1,4 +1,4 @@
 pub mod Workers
 pub mod Emission
-pub mod Linked
 pub mod Transfers
+pub mod Linked

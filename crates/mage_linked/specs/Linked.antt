@@ -1,36 +1,15 @@
 -- Programs whose workers are linked.
-use Rattle.std.specs.Prelude.{◌≡◌, ◌≢◌, ◌<◌, ℕ, Bool, true, false, List, [], ◌∷◌, length}
+use Rattle.std.specs.Prelude.{◌≡◌, ◌≢◌, ◌<◌, ℕ, Bool, false, ◌||◌, List, [], ◌∷◌, length}
 use Rattle.mage_instr.specs.declared.instr.Program.{Program}
 use Rattle.mage_instr.specs.declared.op.Op.{Op}
 use Rattle.mage_instr.specs.declared.op.Op.TheVariants as op
 use Rattle.mage_linked.specs.declared.emitted.Emitted.{Emitted}
 use Rattle.mage_linked.specs.Emission.{emission_of}
+use Rattle.mage_linked.specs.Transfers.{is_send, is_recv}
 
--- whether an instruction speaks of another worker
+-- whether the opcode speaks of another worker
 abbrev pub is_transfer : Op → Bool
-is_transfer op.Input = false
-is_transfer op.Const = false
-is_transfer op.Output = false
-is_transfer op.Add = false
-is_transfer op.Sub = false
-is_transfer op.Mul = false
-is_transfer op.And = false
-is_transfer op.Or = false
-is_transfer op.Xor = false
-is_transfer op.Not = false
-is_transfer op.Eq = false
-is_transfer op.Lt = false
-is_transfer op.Mux = false
-is_transfer op.Shl = false
-is_transfer op.Shr = false
-is_transfer op.Resize = false
-is_transfer op.Send = true
-is_transfer op.Recv = true
-is_transfer op.Div = false
-is_transfer op.Rem = false
-is_transfer op.Count = false
-is_transfer op.Min = false
-is_transfer op.Max = false
+is_transfer o = is_send o || is_recv o
 
 -- one worker sends what another receives, in the same width
 pub record IsTransfer (workers : ℕ) (send recv : Emitted) : Type 0 where

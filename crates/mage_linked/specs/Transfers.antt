@@ -5,6 +5,7 @@ use Rattle.mage_instr.specs.declared.instr.Instr.{Instr}
 use Rattle.mage_instr.specs.declared.op.Op.{Op}
 use Rattle.mage_instr.specs.declared.op.Op.TheVariants as op
 
+-- whether the opcode sends
 abbrev pub is_send : Op → Bool
 is_send op.Input = false
 is_send op.Const = false
@@ -30,6 +31,7 @@ is_send op.Count = false
 is_send op.Min = false
 is_send op.Max = false
 
+-- whether the opcode receives
 abbrev pub is_recv : Op → Bool
 is_recv op.Input = false
 is_recv op.Const = false
