@@ -1,0 +1,9 @@
+pub mod Places
+pub mod Prefixes
+pub mod Orders
+pub mod OwnRuns
+pub mod Accounts
+pub mod Turns
+pub mod Meeting
+pub mod Stuck
+pub mod Steps

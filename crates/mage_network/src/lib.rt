@@ -1,0 +1,10 @@
+//! Networks of deterministic workers with links that are first in, first out, and their laws.
+//! Definitions and laws alone: nothing here runs.
+#![tactic(auto)]
+
+mod laws;
+
+pub use laws::{
+    adder_says_the_sum, each_is_on_its_own_run, none_is_stuck, own_runs_are_runs,
+    runs_begin_the_joint_run, steps_go_along,
+};
