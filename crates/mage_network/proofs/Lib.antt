@@ -7,3 +7,8 @@ pub mod Turns
 pub mod Meeting
 pub mod Stuck
 pub mod Steps
+pub mod Tied
+pub mod SlotLemmas
+pub mod SlotsMean
+pub mod Answering
+pub mod AnsweredReads

@@ -258,3 +258,11 @@ module _ {S L W : Type 0} (next : ℕ → S → Act S L W) (starts : ℕ → S) 
       let network = network_after next starts capacity schedule in
       accounts_begin network.workers network.links (network_accounts next starts capacity schedule)
       turns n stops
+
+  pub orders_same : (turns others : List Joint) (n : ℕ) →
+      next n (together next starts turns n).state ≡ Stops →
+      next n (together next starts others n).state ≡ Stops →
+      together next starts others n ≡ together next starts turns n
+  orders_same turns others n stops done =
+      let h = (together_keeps (λ workers. Unit {0}) (λ workers turn k kept. tt) tt others).0 in
+      (accounts_begin (together next starts others) (λ k m. []) h turns n stops).done done

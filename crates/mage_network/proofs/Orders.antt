@@ -131,3 +131,13 @@ pub worker_same : {S L W : Type 0} (one other : Worker S L W) → one.past ≡ o
     one.state ≡ other.state → one ≡ other
 worker_same one other p s = ap (λ x. record { state = x; past = one.past }) s ∙ ap
     (λ x. record { state = other.state; past = x }) p
+
+-- what a start has and each deed keeps, each state has that a past leads to
+pub leads_keeps : {S L W : Type 0} (next : S → Act S L W) (start : S) (Kept : S → Type 0) →
+    Kept start →
+    ((before after : S) (deed : Deed L W) → Kept before → Allows (next before) deed after →
+    Kept after) →
+    (past : List (Deed L W)) (state : S) → Leads next start past state → Kept state
+leads_keeps next start Kept first keeps [] state h = subst Kept h first
+leads_keeps next start Kept first keeps (deed ∷ past) state h =
+    keeps h.0 state deed (leads_keeps next start Kept first keeps past h.0 h.1) h.2

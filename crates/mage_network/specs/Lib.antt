@@ -4,3 +4,7 @@ pub mod Network
 pub mod Together
 pub mod Laws
 pub mod Adding
+pub mod Waiting
+pub mod Slots
+pub mod Answers
+pub mod Reading

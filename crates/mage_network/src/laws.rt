@@ -8,7 +8,8 @@ ghost use Rattle.mage_network.specs.Laws.{network_after, EachIsOnItsOwnRun, Link
 ghost use Rattle.mage_network.specs.Adding.{adder, adder_starts, adder_turns, adder_schedule, adder_end};
 
 /// In every state of a network each worker is where it comes on its own over what it took; and on
-/// each link, what was sent is what was taken, and then what lies on it.
+/// each link, what was sent is what was taken, and then what lies on it. After turns together each
+/// worker is on its own run too.
 pub fn each_is_on_its_own_run<S, L, W>()
     ensures workers { (next : ℕ → S → Act S L W) (starts : ℕ → S)
         (capacity : ℕ) (schedule : List ℕ)
@@ -17,6 +18,8 @@ pub fn each_is_on_its_own_run<S, L, W>()
         (capacity : ℕ) (schedule : List ℕ)
         → LinksHoldTheRest (network_after next starts capacity schedule).workers
         (network_after next starts capacity schedule).links }
+    ensures together { (next : ℕ → S → Act S L W) (starts : ℕ → S) (turns : List Joint) (n : ℕ)
+        → WentAlone (next n) (starts n) (together next starts turns n) }
 {}
 
 /// Each own run is led to by its past, whatever it receives; and a past that leads from the start
@@ -54,7 +57,8 @@ pub fn steps_go_along<S, L, W>()
 /// Workers that went each some way on its own, over prefixes of what was sent to it, against any
 /// turns together: of a worker's two pasts one is an earlier state of the other; and where the
 /// worker is done after the turns, all that it did begins what it did there, and is all of it if
-/// it is done. So of every schedule, for every capacity.
+/// it is done. So of every schedule, for every capacity; and turns together in two orders leave a
+/// worker that is done after both in one state, with one past.
 pub fn runs_begin_the_joint_run<S, L, W>()
     ensures comparable { (next : ℕ → S → Act S L W) (starts : ℕ → S)
         (workers : ℕ → Worker S L W) (turns : List Joint) → WentApart next starts workers
@@ -73,6 +77,10 @@ pub fn runs_begin_the_joint_run<S, L, W>()
         (n : ℕ) → next n (together next starts turns n).state ≡ Stops
         → Begins (next n) ((network_after next starts capacity schedule).workers n)
         (together next starts turns n) }
+    ensures orders { (next : ℕ → S → Act S L W) (starts : ℕ → S) (turns others : List Joint)
+        (n : ℕ) → next n (together next starts turns n).state ≡ Stops
+        → next n (together next starts others n).state ≡ Stops
+        → together next starts others n ≡ together next starts turns n }
 {}
 
 /// For each capacity from 1 on, in every state of a network: some worker can go on, or each worker

@@ -1,4 +1,4 @@
-use Rattle.mage_network.proofs.Meeting.{runs_comparable, runs_begin, schedules_begin}
+use Rattle.mage_network.proofs.Meeting.{runs_comparable, runs_begin, schedules_begin, orders_same}
 use Rattle.mage_network.proofs.Steps.{along_begins}
 use Rattle.mage_network.proofs.laws.runs_begin_the_joint_run.Goals as goal
 
@@ -13,3 +13,6 @@ returns-clause-along g c = along_begins
 
 pub returns-clause-schedules : goal.returns-clause-schedules
 returns-clause-schedules g c = schedules_begin
+
+pub returns-clause-orders : goal.returns-clause-orders
+returns-clause-orders g c = orders_same
