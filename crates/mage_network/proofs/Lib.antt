@@ -1,0 +1,14 @@
+pub mod Places
+pub mod Prefixes
+pub mod Orders
+pub mod OwnRuns
+pub mod Accounts
+pub mod Turns
+pub mod Meeting
+pub mod Stuck
+pub mod Steps
+pub mod Tied
+pub mod SlotLemmas
+pub mod SlotsMean
+pub mod Answering
+pub mod AnsweredReads

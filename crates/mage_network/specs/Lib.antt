@@ -1,0 +1,10 @@
+pub mod Workers
+pub mod Pasts
+pub mod Network
+pub mod Together
+pub mod Laws
+pub mod Adding
+pub mod Waiting
+pub mod Slots
+pub mod Answers
+pub mod Reading
