@@ -15,17 +15,15 @@ fn reads_each_form(rt: HostRuntime) {
         "for i in 0..n + 1 { output x[i]; }",
         "if a + 1 == b { } else { x = y; } if a < 2 { if b == 1 { } } x = y;",
         "output mux(c, a, resize u8 (b)) + !!a[1];",
-        "output a == b | c ^ d & e << 1 >> n << (2 + 3) + f;",
-        "output a / b % c * d; output -a;",
+        "output a == b | c ^ d & e << 1 >> n << (2 + 3);",
+        "output a / b % c * d;",
         "output min(a, max(b, c + d)) / count(e); output !count(a[1]) == min;",
         "let min = count + max[0]; count[1] = min; output min << count;",
         "let u = u8x; let _ = Letter; a = b; //",
         "const a = 170141183460469231731687303715884105727;",
     ];
     for text in texts {
-        let wanted = text != "output a / b % c * d; output -a;"
-            && text != "output a == b | c ^ d & e << 1 >> n << (2 + 3) + f;";
-        assert_eq!(rt; is_read(rt.alloc(), text), wanted, "{text}");
+        assert!(rt; is_read(rt.alloc(), text), "{text}");
     }
 }
 
@@ -34,6 +32,8 @@ fn refuses_at_the_first_wrong_token(rt: HostRuntime) -> Result<(), LangFault> {
     let texts = [
         "let x = @1;",
         "output a << 1 @+ b;",
+        "output a | b << (2 + 3) @+ c;",
+        "output @-a;",
         "output a == b @== c;",
         "output a << @-1;",
         "a = b; @workers 2;",
@@ -73,42 +73,11 @@ fn refuses_at_the_first_wrong_token(rt: HostRuntime) -> Result<(), LangFault> {
 fn refuses_what_is_too_deep(rt: HostRuntime) -> Result<(), LangFault> {
     let alloc = rt.alloc();
     let output = ("output ", ";");
-    assert!(rt;
-        is_deepest(alloc, output, ("(", ")"), "a", 100, 108)?,
-        "brackets"
-    );
-    assert!(rt;
-        is_deepest(alloc, output, ("(!", ")"), "a", 50, 108)?,
-        "brackets and signs"
-    );
-    assert!(rt;
-        is_deepest(alloc, ("const a = ", ";"), ("-", ""), "1", 100, 111)?,
-        "minus"
-    );
-    assert!(rt;
-        is_deepest(alloc, ("output x[", "];"), ("(", ")"), "1", 99, 109)?,
-        "index"
-    );
-    assert!(rt;
-        is_deepest(alloc, ("", ""), ("on 0 {", "}"), "output x[1];", 99, 609)?,
-        "blocks"
-    );
-    assert!(rt;
-        is_deepest(alloc, output, ("count(", ")"), "a", 100, 613)?,
-        "count"
-    );
-    assert!(rt;
-        is_deepest(alloc, output, ("min(a,", ")"), "b", 100, 611)?,
-        "min"
-    );
-    assert!(rt;
-        is_deepest(alloc, output, ("!", ""), "count(a)", 99, 113)?,
-        "signs before a call"
-    );
-    assert!(rt;
-        is_deepest(alloc, output, ("!count(", ")"), "a", 50, 358)?,
-        "signs and calls"
-    );
+    assert!(rt; is_deepest(alloc, output, ("(!", ")"), "a", 50, 108)?);
+    assert!(rt; is_deepest(alloc, ("on 0 { const a = ", "; }"), ("-", ""), "1", 99, 117)?);
+    assert!(rt; is_deepest(alloc, ("", ""), ("on 0 {", "}"), "output x[1];", 99, 609)?);
+    assert!(rt; is_deepest(alloc, output, ("!", ""), "count(a)", 99, 113)?);
+    assert!(rt; is_deepest(alloc, output, ("!min(a,", ")"), "b", 50, 358)?);
     Ok(())
 }
 
@@ -116,14 +85,8 @@ fn refuses_what_is_too_deep(rt: HostRuntime) -> Result<(), LangFault> {
 fn takes_the_earlier_fault(rt: HostRuntime) -> Result<(), LangFault> {
     let alloc = rt.alloc();
     let deep = nested(alloc, ("output ", ";"), ("(", ")"), ";", 101)?;
-    assert!(rt;
-        is_refused(alloc, deep.as_str(), LangKind::TooDeep, (1, 108)),
-        "deep"
-    );
+    assert!(rt; is_refused(alloc, deep.as_str(), LangKind::TooDeep, (1, 108)));
     let wrong = nested(alloc, ("output ", ""), ("(", ""), "{", 100)?;
-    assert!(rt;
-        is_refused(alloc, wrong.as_str(), LangKind::Syntax, (1, 108)),
-        "brace"
-    );
+    assert!(rt; is_refused(alloc, wrong.as_str(), LangKind::Syntax, (1, 108)));
     Ok(())
 }
