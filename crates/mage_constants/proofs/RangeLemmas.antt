@@ -1,12 +1,9 @@
 -- Numbers that passed the test for their range. Other crates cite these.
 use Rattle.std.proofs.Common.{◌≡◌, ℤ, pos, Some, subst, arith}
-use Rattle.std.specs.Prelude.{ℕ, ◌<◌, ◌&&◌, true, int_le, int_lt, unsigned_abs, Option}
+use Rattle.std.specs.Prelude.{ℕ, ◌<◌, ◌&&◌, true, int_le, int_lt, unsigned_abs}
 use Rattle.std.proofs.lemmas.Bool.{and_parts}
 use Rattle.std.proofs.lemmas.Int.{ints}
 use Rattle.mage_chains.proofs.Ends.{cond_some}
-use Rattle.mage_lex.specs.declared.fault.LangFault.{LangFault}
-use Rattle.mage_lex.specs.declared.fault.LangKind.{LangKind}
-use Rattle.mage_lex.specs.declared.token.Token.{Token}
 use Rattle.mage_constants.specs.Ranges.{number_below, size_in}
 
 below_from_test : (limit : ℕ) (z : ℤ) → int_le (pos 0) z ≡ true → int_lt z (pos limit) ≡ true → unsigned_abs z < limit

@@ -1,6 +1,6 @@
 -- What the value of a constant is at a sign and at a chain, and of what is wanted where it is
 -- there.
-use Rattle.std.proofs.Common.{◌≡◌, ℤ, List, map, Option, Some, None, Result, Ok, Err, ap, sym, ◌∙◌}
+use Rattle.std.proofs.Common.{◌≡◌, List, map, Option, Some, None, Result, Ok, Err, ap, sym, ◌∙◌}
 use Rattle.std.specs.Prelude.{neg_ℤ}
 use Rattle.mage_chains.specs.Chains.{◌>>=◌}
 use Rattle.mage_chains.proofs.Ends.{err_not_ok}

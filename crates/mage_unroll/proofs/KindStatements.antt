@@ -19,7 +19,7 @@ use Rattle.mage_constants.specs.Answer.{or_fault}
 use Rattle.mage_constants.specs.Constants.{constant_of}
 use Rattle.mage_unroll.specs.Expressions.{variable_of}
 use Rattle.mage_unroll.specs.State.{State, Held, stepped, stepped_by, emitted, defined, is_free, bound, constants_of, place_of, own_place, width_at, is_as_wide}
-use Rattle.mage_constants.specs.Ranges.{number_below, size_in, distance}
+use Rattle.mage_constants.specs.Ranges.{number_below, distance}
 use Rattle.mage_unroll.specs.Statements.{Act, all_acts, entering, in_scope, length_at, inputs, input_of, first_token, named_scalar, transferred, moved, turn, turns, condition, branch, stmt_layer, executed}
 use Rattle.mage_unroll.specs.Unrolled.{workers_of, opening, emitted_by, unrolled_of}
 use Rattle.mage_unroll.proofs.KindLemmas.{Kinds, kinds-then, kinds-or_fault, kinds-if, kinds-constant, kinds-stepped, kinds-emitted, kinds-defined, kinds-free, kinds-width_at, kinds-is_as_wide, kinds-place, kinds-own_place, kinds-variable}

@@ -1,6 +1,6 @@
 -- The program that a source unrolls to: each worker's list of instructions is sound, the workers
 -- are linked, and there are no more instructions than there may be.
-use Rattle.std.proofs.Common.{◌≡◌, ◌<◌, ◌≤◌, ◌&&◌, ℕ, List, map, length, get_or, Option, Some, None, Result, Ok, Err, IfOk, All, refl, sym, ap, ◌∙◌, subst, arith}
+use Rattle.std.proofs.Common.{◌≡◌, ◌<◌, ◌≤◌, ◌&&◌, ℕ, List, map, length, get_or, Option, Some, None, Result, Ok, Err, IfOk, All, refl, subst, arith}
 use Rattle.std.specs.Prelude.{nat_le}
 use Rattle.std.proofs.lemmas.Bool.{and_parts, leb-true}
 use Rattle.std.proofs.lemmas.List.{length-map}
@@ -21,7 +21,6 @@ use Rattle.mage_linked.specs.declared.emitted.Emitted.{Emitted}
 use Rattle.mage_linked.proofs.LinkedLemmas.{program_of-linked}
 use Rattle.mage_tree.specs.declared.tree.Stmt.{Stmt}
 use Rattle.mage_unroll.specs.Limits.{MOST_INSTRS}
-use Rattle.mage_unroll.specs.State.{State}
 use Rattle.mage_unroll.specs.Statements.{all_acts, executed}
 use Rattle.mage_unroll.specs.Unrolled.{workers_in, workers_of, opening, emitted_by, unrolled_of}
 use Rattle.mage_unroll.proofs.SoundStates.{Well}
