@@ -8,7 +8,7 @@ mod sizes;
 mod task;
 mod trouble;
 
-use mage_syntax::Source;
+use mage_tree::Source;
 use sizes::{Reading, instructions, printed_bytes, read};
 use std::env::Env;
 use std::process::ExitCode;

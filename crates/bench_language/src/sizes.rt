@@ -2,14 +2,16 @@
 ghost use Rattle.std.specs.Prelude.{◌≡◌, List, length, IfOk, IfErr, IsOkAnd};
 ghost use Rattle.mage_lex.specs.Tokens.{tokens_of};
 ghost use Rattle.mage_lex.specs.declared.token.Token.{Token as TokenValue};
-ghost use Rattle.mage_syntax.specs.Printed.{printed};
-ghost use Rattle.mage_syntax.specs.Sources.{IsSource};
-ghost use Rattle.mage_unroll.specs.Answer.{Fails};
+ghost use Rattle.mage_constants.specs.Answer.{Fails};
+ghost use Rattle.mage_printer.specs.Printed.{printed};
+ghost use Rattle.mage_tree.specs.Sources.{MOST_DEPTH as most_depth, IsSource};
 ghost use Rattle.mage_unroll.specs.Unrolled.{unrolled_of};
 
 use mage_base::Memory;
 use mage_lex::{LangFault, lex};
-use mage_syntax::{Source, parse, print};
+use mage_parser::parse;
+use mage_printer::print;
+use mage_tree::Source;
 use mage_unroll::unroll;
 use std::alloc::Global;
 
@@ -24,7 +26,7 @@ pub struct Reading {
 pub fn read(alloc: Global, text: &[u8]) -> Result<Reading, LangFault>
     ensures tokens { IfOk result (λ reading. IsOkAnd (tokens_of text.now) (λ tokens. length tokens ≡ reading.tokens)) }
     ensures source { IfOk result (λ reading. IsOkAnd (tokens_of text.now)
-        (IsSource 100 reading.source.workers reading.source.body)) }
+        (IsSource most_depth reading.source.workers reading.source.body)) }
 {
     let tokens = lex(alloc, text)?;
     let source = parse(alloc, text, &tokens)?;
@@ -36,7 +38,7 @@ pub fn read(alloc: Global, text: &[u8]) -> Result<Reading, LangFault>
 
 /// How many bytes a source is printed as.
 pub fn printed_bytes(alloc: Global, source: &Source) -> Result<usize, Memory>
-    ensures { (tokens : List TokenValue) → IsSource 100 source.now.workers source.now.body tokens →
+    ensures { (tokens : List TokenValue) → IsSource most_depth source.now.workers source.now.body tokens →
         IfOk result (λ count. length (printed tokens) ≡ count) }
 {
     let text = print(alloc, source)?;

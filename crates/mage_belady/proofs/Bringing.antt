@@ -6,8 +6,7 @@ use Rattle.mage_instr.specs.declared.instr.TheConstants.{NEVER}
 use Rattle.mage_instr.specs.declared.replaced.Replaced.{Replaced}
 use Rattle.mage_instr.specs.declared.replaced.Replaced.TheVariants as entry
 use Rattle.mage_belady.specs.Plan.{is_in, AreDistinct, how_many}
-use Rattle.mage_belady.specs.declared.held.Held.{Held}
-use Rattle.mage_belady.specs.Rule.{Moved, resident, victim_of, frame_of, entering, brought_in, all_brought_in, loads_of, taken, sets_from}
+use Rattle.mage_belady.specs.Rule.{Held, Moved, resident, victim_of, frame_of, entering, brought_in, all_brought_in, loads_of, taken, sets_from}
 use Rattle.mage_belady.proofs.Counts.{one, is_in-here, is_in-cons, is_in-tail, is_in-head}
 use Rattle.mage_belady.proofs.Sets.{is_in-set_same, is_in-set_other, is_in-push_old, is_in-push_new, frame_of-within, frame_of-has}
 use Rattle.mage_belady.proofs.Going.{Going, goes_free, goes_full, some_outside, Leaves, Leaves-victim_of}

@@ -22,7 +22,7 @@ below_each x (y ∷ ys) h q m =
     let first : x < y = h 0 (omega arith) in
     ⊎_elim (λ e. omega (arith, first, e)) (λ k. let r = below_each y ys (increasing-tail x (y ∷ ys) h) q k in omega (arith, first, r)) (is_in-cons q y ys m)
 
-AreDistinct-increasing : (xs : List ℕ) → IsStrictlyIncreasing xs → AreDistinct xs
+pub AreDistinct-increasing : (xs : List ℕ) → IsStrictlyIncreasing xs → AreDistinct xs
 AreDistinct-increasing [] h = tt
 AreDistinct-increasing (x ∷ xs) h = (go (is_in x xs) refl, AreDistinct-increasing xs (increasing-tail x xs h)) where
   go : (b : Bool) → is_in x xs ≡ b → is_in x xs ≡ false

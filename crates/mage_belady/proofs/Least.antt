@@ -13,8 +13,7 @@ use Rattle.mage_instr.specs.Trace.{pages_of}
 use Rattle.mage_instr.specs.Opcodes.{has_result}
 use Rattle.mage_next.specs.Next.{first_use}
 use Rattle.mage_belady.specs.Plan.{is_in, AreDistinct, how_many, Holds, Serves, comes_back, reads_from, reads_of}
-use Rattle.mage_belady.specs.declared.held.Held.{Held}
-use Rattle.mage_belady.specs.Rule.{Moved, resident, frame_of, all_brought_in, job_in, written, rule_from, rule_of, loads_of, sets_from, sets_of, pages_by_step}
+use Rattle.mage_belady.specs.Rule.{Held, Moved, resident, frame_of, all_brought_in, job_in, written, rule_from, rule_of, loads_of, sets_from, sets_of, pages_by_step}
 use Rattle.mage_belady.proofs.Counts.{is_in-cons, is_in-tail, is_in-head, how_many-more, how_many-none}
 use Rattle.mage_belady.proofs.Potential.{step_after}
 use Rattle.mage_belady.proofs.Going.{starts, IsEarly}
@@ -80,7 +79,7 @@ set-frame_of page (x ∷ xs) = go (nat_eq page x) refl (set-frame_of page xs) wh
 resident-written : (page : ℕ) (held : List Held) → resident (written page held) ≡ resident held
 resident-written page held = resident-set held (frame_of page (resident held)) (record { page = page; dirty = true }) ∙ set-frame_of page (resident held)
 
-resident-after : (b : Bool) (page : ℕ) (held : List Held) → resident (cond b (written page held) held) ≡ resident held
+pub resident-after : (b : Bool) (page : ℕ) (held : List Held) → resident (cond b (written page held) held) ≡ resident held
 resident-after true page held = resident-written page held
 resident-after false page held = refl
 

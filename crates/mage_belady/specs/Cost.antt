@@ -23,13 +23,16 @@ fault_at frames t set pages =
 
 -- the first fault of some sets, where their steps are numbered from t
 abbrev pub fault_from : (frames t : ℕ) (plan trace : List (List ℕ)) → Option CostFault
-fault_from frames t (set ∷ plan) (pages ∷ trace) = option_or (fault_at frames t set pages) (fault_from frames (t + 1) plan trace)
+fault_from frames t (set ∷ plan) (pages ∷ trace) =
+    option_or (fault_at frames t set pages) (fault_from frames (t + 1) plan trace)
 fault_from frames t [] trace = None
 fault_from frames t (set ∷ plan) [] = None
 
 -- the first fault of a plan
 abbrev pub fault_of : (frames : ℕ) (plan trace : List (List ℕ)) → Option CostFault
-fault_of frames plan trace = if nat_eq (length plan) (length trace) then fault_from frames 0 plan trace else Some wrong.Length
+fault_of frames plan trace =
+    if nat_eq (length plan) (length trace) then fault_from frames 0 plan trace
+    else Some wrong.Length
 
 -- the sets of a plan
 abbrev pub sets_in : List (Vec ℕ Global) → List (List ℕ)

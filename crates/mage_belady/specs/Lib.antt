@@ -1,5 +1,7 @@
+-- What the contracts of this crate cite.
 pub mod Cost
+pub mod Kept
 pub mod Placed
 pub mod Plan
 pub mod Rule
-pub mod Views
+pub mod Uses

@@ -1,18 +1,16 @@
 -- Places that fit a trace: each instruction finds its values in the pages of its step.
-use Rattle.std.specs.Prelude.{◌≡◌, ℕ, List, length, take, slice_get, true, IsTrue, IfSome, IsSomeAnd, Contains}
+use Rattle.std.specs.Prelude.{◌≡◌, ℕ, List, length, take, slice_get, IsTrue, IfSome, IsSomeAnd, Contains}
 use Rattle.std.specs.List.{All}
 use Rattle.mage_instr.specs.declared.instr.Instr.{Instr}
 use Rattle.mage_instr.specs.declared.instr.Place.{Place}
 use Rattle.mage_instr.specs.declared.instr.Step.{Step}
 use Rattle.mage_instr.specs.Trace.{pages_of}
 use Rattle.mage_instr.specs.Opcodes.{arity_of, has_result}
-use Rattle.mage_belady.specs.declared.held.Held.{Held}
-use Rattle.mage_belady.specs.Plan.{is_in}
-use Rattle.mage_belady.specs.Rule.{resident}
 
 -- the value of instruction v has a place in a page of the step
 abbrev pub StandsIn : List Place → Step → (v : ℕ) → Type 0
-StandsIn places step v = IsSomeAnd (slice_get places v) (λ place. Contains (pages_of step) place.page)
+StandsIn places step v =
+    IsSomeAnd (slice_get places v) (λ place. Contains (pages_of step) place.page)
 
 -- the values that an instruction takes, each as the index of the instruction that defined it
 abbrev pub args_of : Instr → List ℕ
@@ -26,8 +24,5 @@ pub record FindsValues (places : List Place) (t : ℕ) (i : Instr) (step : Step)
 -- each instruction has a step, and finds its values there
 pub record FitsTrace (instrs : List Instr) (places : List Place) (trace : List Step) : Type 0 where
   pub count : length trace ≡ length instrs
-  pub each : (t : ℕ) → IfSome (slice_get instrs t) (λ i. IfSome (slice_get trace t) (FindsValues places t i))
-
--- the value of instruction v has a place in a page that is in memory
-abbrev pub IsHeld : List Held → List Place → (v : ℕ) → Type 0
-IsHeld held places v = IsSomeAnd (slice_get places v) (λ place. is_in place.page (resident held) ≡ true)
+  pub each : (t : ℕ) → IfSome (slice_get instrs t)
+      (λ i. IfSome (slice_get trace t) (FindsValues places t i))

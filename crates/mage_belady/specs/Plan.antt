@@ -33,9 +33,11 @@ Serves (set ∷ plan) [] frames = ⊥
 abbrev pub comes_back : (seen before : List ℕ) → ℕ → Bool
 comes_back seen before page = is_in page seen && not (is_in page before)
 
--- the reads of a plan, where the steps before had the pages `seen`, and the last of them left `before` in memory
+-- the reads of a plan, where the steps before had the pages `seen`, and the last of them left
+-- `before` in memory
 abbrev pub reads_from : (seen before : List ℕ) (plan trace : List (List ℕ)) → ℕ
-reads_from seen before (set ∷ plan) (pages ∷ trace) = how_many (comes_back seen before) set + reads_from (seen ++ pages) set plan trace
+reads_from seen before (set ∷ plan) (pages ∷ trace) =
+    how_many (comes_back seen before) set + reads_from (seen ++ pages) set plan trace
 reads_from seen before [] trace = 0
 reads_from seen before (set ∷ plan) [] = 0
 

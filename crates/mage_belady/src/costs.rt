@@ -1,3 +1,4 @@
+// What a plan of residency reads, or what is wrong with it.
 ghost use Rattle.std.specs.Prelude.{◌≡◌, ◌≢◌, ◌≤◌, ◌<◌, ◌&&◌, ◌||◌, ◌⊎◌, ℕ, length, map, not, nat_eq, IfOk, IfErr, OnOk, Some, None};
 ghost use Rattle.std.specs.List.{list_all};
 ghost use Rattle.std.specs.HashSet.{contains};
@@ -8,21 +9,24 @@ ghost use Rattle.mage_belady.specs.Rule.{pages_by_step};
 ghost use Rattle.mage_belady.specs.Cost.{ascends, fault_at, fault_of, sets_in};
 
 use crate::CostFault;
-use crate::seen::note;
+use mage_base::Memory;
 use mage_instr::Step;
 use std::alloc::Global;
 use std::collections::HashSet;
 
 /// The reads of a plan of residency: how many pages come into memory that a step before had.
 ///
-/// The plan is a list of sets of pages, one for each step, each ascending strictly. The answer is the first fault where
-/// it isn't a plan for the trace with these frames.
+/// The plan is a list of sets of pages, one for each step, each ascending strictly. The answer is
+/// the first fault where it isn't a plan for the trace with these frames.
 pub fn cost(alloc: Global, trace: &[Step], frames: u32, plan: &[Vec<u32>]) -> Result<u64, CostFault>
     requires { IsTrace trace.now }
-    ensures reads { IfOk result (λ reads. reads ≡ reads_of (sets_in plan.now) (pages_by_step trace.now)) }
-    ensures none { OnOk result (fault_of frames (sets_in plan.now) (pages_by_step trace.now) ≡ None) }
+    ensures reads { IfOk result (λ reads. reads
+        ≡ reads_of (sets_in plan.now) (pages_by_step trace.now)) }
+    ensures none { OnOk result
+        (fault_of frames (sets_in plan.now) (pages_by_step trace.now) ≡ None) }
     ensures serves { OnOk result (Serves (sets_in plan.now) (pages_by_step trace.now) frames) }
-    ensures fault { IfErr result (λ fault. (fault ≡ wrong.Memory) ⊎ (fault_of frames (sets_in plan.now) (pages_by_step trace.now) ≡ Some fault)) }
+    ensures fault { IfErr result (λ fault. (fault ≡ wrong.Memory)
+        ⊎ (fault_of frames (sets_in plan.now) (pages_by_step trace.now) ≡ Some fault)) }
 {
     if plan.len() != trace.len() {
         return Err(CostFault::Length);
@@ -92,7 +96,8 @@ fn is_among(page: u32, set: &[u32]) -> bool
 
 // How many pages of a set come in that a step before had.
 fn coming_back(set: &[u32], before: &[u32], seen: &HashSet<u32>) -> usize
-    ensures count { result ≡ how_many (λ page. contains nat_eq seen.now page && not (is_in page before.now)) set.now }
+    ensures count { result
+        ≡ how_many (λ page. contains nat_eq seen.now page && not (is_in page before.now)) set.now }
     ensures bound { result ≤ length set.now }
 {
     let mut count = 0;
@@ -102,6 +107,18 @@ fn coming_back(set: &[u32], before: &[u32], seen: &HashSet<u32>) -> usize
         }
     }
     count
+}
+
+// The pages of a step were had.
+fn note(seen: &mut HashSet<u32>, step: Step) -> Result<(), Memory>
+    requires { IsStep step }
+    ensures { OnOk result ((page : ℕ) → contains nat_eq seen.new page
+        ≡ (contains nat_eq seen.old page || is_in page (pages_of step))) }
+{
+    for k in 0..usize::from(step.count) {
+        seen.insert(step.pages[k])?;
+    }
+    Ok(())
 }
 
 #[cfg(test)]

@@ -1,3 +1,4 @@
+// The refusals of `replace` and `cost`.
 use mage_instr::Tight;
 use thiserror::Error;
 

@@ -3,17 +3,15 @@
 
 mod costs;
 mod fault;
-mod frames;
-mod held;
 mod jobs;
-mod optimum;
+mod laws;
 mod paging;
 mod replacing;
-mod seen;
-mod tight;
-mod uses;
+mod steps;
+mod use_map;
 
 pub use costs::cost;
 pub use fault::{CostFault, ReplaceError};
-pub use optimum::reads_least;
-pub use replacing::replace;
+pub use laws::reads_least;
+pub use replacing::{replace, replace_counted};
+pub use steps::Steps;

@@ -46,8 +46,7 @@ pub struct GateHashes {
 }
 
 /// The four hashes that garbling an AND takes, from the zero labels of its inputs, `a` with tweak
-/// `j` and `b` with tweak `k`. Each is what `mage_label::hash` gives, in less than half of the time
-/// that four calls take.
+/// `j` and `b` with tweak `k`, and the offset R. Each is what `mage_label::hash` gives.
 pub fn gate_hashes(a: Label, b: Label, offset: Label, worker: u16, j: u64, k: u64) -> GateHashes
     ensures a_zero { result.a_zero ≡ hash_of a worker j }
     ensures a_one { result.a_one ≡ hash_of (xor a offset) worker j }

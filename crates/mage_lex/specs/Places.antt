@@ -14,7 +14,8 @@ column_after before = 1 + suffix_len is_in_line before
 
 -- the place of the byte after these
 abbrev pub place_after : List ℕ → Place
-place_after before = record { start = length before; line = line_after before; column = column_after before }
+place_after before =
+    record { start = length before; line = line_after before; column = column_after before }
 
 -- the place of the n-th byte of a text
 abbrev pub place_at : List ℕ → ℕ → Place

@@ -6,9 +6,9 @@ use Rattle.std.specs.List.{starts_with}
 abbrev pub symbols : List (List ℕ)
 symbols =
     codes ".." ∷ codes "==" ∷ codes "<<" ∷ codes ">>"
-    ∷ codes ";" ∷ codes ":" ∷ codes "," ∷ codes "(" ∷ codes ")" ∷ codes "[" ∷ codes "]" ∷ codes "{" ∷ codes "}"
-    ∷ codes "=" ∷ codes "<" ∷ codes "+" ∷ codes "-" ∷ codes "*" ∷ codes "/" ∷ codes "%" ∷ codes "&" ∷ codes "^"
-    ∷ codes "|" ∷ codes "!" ∷ []
+    ∷ codes ";" ∷ codes ":" ∷ codes "," ∷ codes "(" ∷ codes ")" ∷ codes "[" ∷ codes "]"
+    ∷ codes "{" ∷ codes "}" ∷ codes "=" ∷ codes "<" ∷ codes "+" ∷ codes "-" ∷ codes "*"
+    ∷ codes "/" ∷ codes "%" ∷ codes "&" ∷ codes "^" ∷ codes "|" ∷ codes "!" ∷ []
 
 -- how many they are
 abbrev pub SYMBOL_COUNT : ℕ
@@ -87,7 +87,8 @@ OR = 22
 abbrev pub NOT : ℕ
 NOT = 23
 
--- the row of the longest symbol that the text begins with: the first in the list, where the longer stand first
+-- the row of the longest symbol that the text begins with: the first in the list, where the longer
+-- stand first
 unfoldable pub symbol_row : List ℕ → Option ℕ
 symbol_row text = position (λ symbol. starts_with nat_eq text symbol) symbols
 

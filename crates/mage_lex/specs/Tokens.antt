@@ -25,25 +25,29 @@ word_of text = let word = take_while is_in_word text in piece.Lexeme (kinds.Word
 -- a number that these digits write, where it is small enough and no letter follows it directly
 abbrev pub number_from : List ℕ → List ℕ → Piece
 number_from digits after =
-    if is_letter (slice_index after 0) || nat_le NUMBER_LIMIT (digits_value 10 digits) then piece.Bad wrong.BadNumber
+    if is_letter (slice_index after 0) || nat_le NUMBER_LIMIT (digits_value 10 digits)
+    then piece.Bad wrong.BadNumber
     else piece.Lexeme (kinds.Number (digits_value 10 digits)) (length digits)
 
 -- the number at the front
 abbrev pub number_of : List ℕ → Piece
-number_of text = let digits = take_while is_ascii_digit text in number_from digits (drop (length digits) text)
+number_of text =
+    let digits = take_while is_ascii_digit text in number_from digits (drop (length digits) text)
 
 -- the symbol of this row
 abbrev pub symbol_of : Option ℕ → Piece
 symbol_of (Some row) = piece.Lexeme (kinds.Symbol row) (length (symbol_bytes row))
 symbol_of None = piece.Bad wrong.BadByte
 
--- what stands at the front of a text: a blank, a comment to the end of its line, a word, a number, a symbol, or a fault
+-- what stands at the front of a text: a blank, a comment to the end of its line, a word, a number,
+-- a symbol, or a fault
 unfoldable pub front_of : List ℕ → Piece
 front_of [] = piece.Gap 0
 front_of (first ∷ rest) =
     let text = first ∷ rest in
     if is_blank first then piece.Gap 1
-    else (if starts_with nat_eq text (codes "//") then piece.Gap (length (take_while is_in_line text))
+    else (if starts_with nat_eq text (codes "//")
+    then piece.Gap (length (take_while is_in_line text))
     else (if is_letter first then word_of text
     else (if is_ascii_digit first then number_of text
     else symbol_of (symbol_row text))))
@@ -73,10 +77,13 @@ abbrev pub in_front : List Token → Result (List Token) LangFault → Result (L
 in_front tokens (Ok others) = Ok (tokens ++ others)
 in_front tokens (Err fault) = Err fault
 
--- what the piece at this place makes of the tokens that follow it: a token stands in front, a fault in place of them
-abbrev pub piece_in_front : Place → Piece → Result (List Token) LangFault → Result (List Token) LangFault
+-- what the piece at this place makes of the tokens that follow it: a token stands in front, a fault
+-- in place of them
+abbrev pub piece_in_front : Place → Piece → Result (List Token) LangFault →
+    Result (List Token) LangFault
 piece_in_front place (piece.Gap size) others = others
-piece_in_front place (piece.Lexeme kind size) others = in_front (token_at place kind size ∷ []) others
+piece_in_front place (piece.Lexeme kind size) others =
+    in_front (token_at place kind size ∷ []) others
 piece_in_front place (piece.Bad kind) others = Err (fault_at place kind)
 
 -- the tokens of what follows these bytes and the next `skip`: piece after piece
@@ -85,7 +92,8 @@ tokens_after before [] skip = Ok []
 tokens_after before (first ∷ rest) (suc skip) = tokens_after (before ++ first ∷ []) rest skip
 tokens_after before (first ∷ rest) zero =
     let front = front_of (first ∷ rest) in
-    piece_in_front (place_after before) front (tokens_after (before ++ first ∷ []) rest (size_of front - 1))
+    piece_in_front (place_after before) front
+    (tokens_after (before ++ first ∷ []) rest (size_of front - 1))
 
 -- the tokens of a text, or its first fault
 unfoldable pub tokens_of : List ℕ → Result (List Token) LangFault

@@ -7,8 +7,9 @@ use Rattle.std.specs.Char.{is_ascii_digit}
 -- the keywords
 abbrev pub keywords : List (List ℕ)
 keywords =
-    codes "workers" ∷ codes "const" ∷ codes "input" ∷ codes "garbler" ∷ codes "evaluator" ∷ codes "let"
-    ∷ codes "array" ∷ codes "move" ∷ codes "on" ∷ codes "for" ∷ codes "in" ∷ codes "if" ∷ codes "else"
+    codes "workers" ∷ codes "const" ∷ codes "input" ∷ codes "garbler" ∷ codes "evaluator"
+    ∷ codes "let" ∷ codes "array" ∷ codes "move" ∷ codes "on" ∷ codes "for" ∷ codes "in"
+    ∷ codes "if" ∷ codes "else"
     ∷ codes "output" ∷ codes "lit" ∷ codes "resize" ∷ codes "mux" ∷ []
 
 -- the word is one of these
@@ -21,7 +22,8 @@ is_keyword word = is_among keywords word
 -- a `u`, then one digit or more and nothing else
 abbrev pub is_type_word : List ℕ → Bool
 is_type_word [] = false
-is_type_word (first ∷ digits) = first == 117 && nat_lt 0 (length digits) && list_all is_ascii_digit digits
+is_type_word (first ∷ digits) =
+    first == 117 && nat_lt 0 (length digits) && list_all is_ascii_digit digits
 
 -- any other word
 abbrev pub is_name : List ℕ → Bool

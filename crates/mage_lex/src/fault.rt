@@ -53,8 +53,8 @@ pub enum LangKind {
 /// Why a text is refused, or that there was no memory to read it.
 #[derive(Clone, Copy, Debug, PartialEq, Eq, Error)]
 pub enum LangFault {
-    /// What is wrong, and where. Lines and columns count from 1, and a column counts bytes; 0 and 0 stand for
-    /// the whole text.
+    /// What is wrong, and where. Lines and columns count from 1, and a column counts bytes; 0 and 0
+    /// stand for the whole text.
     #[error("{kind} at {line}:{column}")]
     At {
         kind: LangKind,

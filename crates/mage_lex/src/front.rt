@@ -71,7 +71,8 @@ fn digits_len(text: &[u8]) -> usize
 #[tactic(auto, using(crate::proofs::Fronts::taken_front))]
 fn digits_at(text: &[u8]) -> &[u8]
     ensures value { result.now ≡ take_while is_ascii_digit text.now }
-    ensures digits { EachIndex result.now (λ k. IsTrue (is_ascii_digit (slice_index result.now k))) }
+    ensures digits { EachIndex result.now
+        (λ k. IsTrue (is_ascii_digit (slice_index result.now k))) }
 {
     &text[..digits_len(text)]
 }
@@ -87,7 +88,8 @@ fn word(alloc: Global, text: &[u8]) -> Result<Piece, Memory>
 // The number with one more digit, if it is below the limit.
 fn with_digit(value: u128, digit: u8) -> Option<u128>
     requires { IsTrue (is_ascii_digit digit) }
-    ensures { let next = value * 10 + digit_value digit in SomeIff result (next < NUMBER_LIMIT) next }
+    ensures { let next = value * 10 + digit_value digit in SomeIff result
+        (next < NUMBER_LIMIT) next }
 {
     let next = value
         .checked_mul(10)?
@@ -98,7 +100,8 @@ fn with_digit(value: u128, digit: u8) -> Option<u128>
 // The number that the digits write, if it is below the limit.
 fn value_of(digits: &[u8]) -> Option<u128>
     requires { EachIndex digits.now (λ k. IsTrue (is_ascii_digit (slice_index digits.now k))) }
-    ensures { let value = digits_value 10 digits.now in SomeIff result (value < NUMBER_LIMIT) value }
+    ensures { let value = digits_value 10 digits.now in SomeIff result
+        (value < NUMBER_LIMIT) value }
 {
     let mut value = 0;
     for digit in digits {

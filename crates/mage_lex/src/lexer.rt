@@ -18,15 +18,18 @@ pub const MOST_BYTES: usize = 1_048_576;
 
 /// The tokens of a text, in order.
 ///
-/// `TooLong` at 0:0 where the text has more than 1,048,576 bytes; else the first `BadByte` or `BadNumber` where
-/// the text has one, with its line and column; and `Memory` where there is none for the tokens.
+/// `TooLong` at 0:0 where the text has more than 1,048,576 bytes; else the first `BadByte` or
+/// `BadNumber` where the text has one, with its line and column; and `Memory` where there is none
+/// for the tokens.
 #[tactic(auto, unfolding(crate::specs::Tokens::tokens_of))]
 pub fn lex(alloc: Global, text: &[u8]) -> Result<Vec<Token>, LangFault>
     ensures tokens { IfOk result (λ tokens. tokens_of text.now ≡ Ok tokens.items) }
     ensures fault { IfErr result (IsFaultOf (tokens_of text.now)) }
-    ensures too_long { IsErrOf result (LangFault.At LangKind.TooLong 0 0) ↔ (most_bytes < length text.now) }
+    ensures too_long { IsErrOf result
+        (LangFault.At LangKind.TooLong 0 0) ↔ (most_bytes < length text.now) }
 
-    // Each token is the bytes at its place, no two of them overlap, and between them are white space and comments.
+    // Each token is the bytes at its place, no two of them overlap, and between them are white
+    // space and comments.
     ensures spelled { IfOk result (λ tokens. All (IsSpelled text.now) tokens.items) }
     ensures order { IfOk result (λ tokens. InOrder 0 tokens.items (length text.now)) }
     ensures gaps { IfOk result (λ tokens. GapsBetween text.now 0 tokens.items) }
@@ -63,7 +66,8 @@ fn read_piece(
     ensures place { IfOk result (λ next. next ≡ place_at text.now next.start) }
     ensures forward { IfOk result (λ next. place.start < next.start) }
     ensures within { IfOk result (λ next. next.start ≤ length text.now) }
-    ensures tokens { IfOk result (λ next. in_front tokens.new.items (tokens_from text.now next.start)
+    ensures tokens { IfOk result
+        (λ next. in_front tokens.new.items (tokens_from text.now next.start)
         ≡ in_front tokens.old.items (tokens_from text.now place.start)) }
     ensures fault { IfErr result (IsFaultOf (tokens_from text.now place.start)) }
 {
@@ -78,7 +82,8 @@ fn take_piece(tokens: &mut Vec<Token>, place: Place, piece: Piece) -> Result<usi
     requires size { size_of piece < 2 ^ 32 }
     ensures size { IfOk result (λ size. size ≡ size_of piece) }
     ensures tokens { OnOk result ((others : Result (List Token) LangFault) →
-        in_front tokens.new.items others ≡ in_front tokens.old.items (piece_in_front place piece others)) }
+        in_front tokens.new.items others
+        ≡ in_front tokens.old.items (piece_in_front place piece others)) }
     ensures fault { IfErr result (λ fault. (others : Result (List Token) LangFault) →
         IsFaultOf (piece_in_front place piece others) fault) }
 {

@@ -3,7 +3,8 @@ ghost use Rattle.std.specs.Prelude.{◌≡◌};
 ghost use Rattle.mage_lex.specs.Symbols.{symbol_bytes};
 ghost use Rattle.mage_lex.specs.Names.{AreNamed};
 
-// The symbols by row: those of two bytes stand before those of one, so the first that fits is the longest.
+// The symbols by row: those of two bytes stand before those of one, so the first that fits is the
+// longest.
 pub(crate) const SYMBOLS: [&str; 24] = [
     "..", "==", "<<", ">>", ";", ":", ",", "(", ")", "[", "]", "{", "}", "=", "<", "+", "-", "*",
     "/", "%", "&", "^", "|", "!",
@@ -21,7 +22,8 @@ pub fn symbol_text(row: u8) -> &'static str
     }
 }
 
-/// Each constant of this module is the row that the definitions call so, and its symbol is spelled as it says.
+/// Each constant of this module is the row that the definitions call so, and its symbol is spelled
+/// as it says.
 #[tactic(auto, using(crate::proofs::SymbolLemmas::are_named))]
 pub fn symbols_are_named()
     ensures { AreNamed }

@@ -4,6 +4,30 @@ use crate::{
 };
 use std::alloc::Global;
 
+// Whether the text is one word, spelled as it is.
+fn is_word(alloc: Global, text: &str) -> Result<bool, LangFault> {
+    let tokens = lex(alloc, text.as_bytes())?;
+    Ok(match tokens.as_slice() {
+        [token] => match &token.kind {
+            TokenKind::Word(word) => word.bytes() == text.as_bytes(),
+            _ => false,
+        },
+        _ => false,
+    })
+}
+
+// Whether the text is one number of this value.
+fn is_number(alloc: Global, text: &str, wanted: u128) -> Result<bool, LangFault> {
+    let tokens = lex(alloc, text.as_bytes())?;
+    Ok(match tokens.as_slice() {
+        [token] => match &token.kind {
+            TokenKind::Number(value) => *value == wanted,
+            _ => false,
+        },
+        _ => false,
+    })
+}
+
 fn is_kind_of_symbol(kind: &TokenKind, row: u8) -> bool {
     match kind {
         TokenKind::Symbol(found) => *found == row,
@@ -11,118 +35,44 @@ fn is_kind_of_symbol(kind: &TokenKind, row: u8) -> bool {
     }
 }
 
-fn is_symbol(tokens: &[Token], row: u8) -> bool {
-    match tokens {
-        [token] => is_kind_of_symbol(&token.kind, row),
-        _ => false,
-    }
+// Whether the text is the symbols of these rows.
+fn are_symbols(alloc: Global, text: &[u8], rows: &[u8]) -> Result<bool, LangFault> {
+    let tokens = lex(alloc, text)?;
+    Ok(
+        tokens.len() == rows.len()
+            && tokens
+                .iter()
+                .zip(rows.iter())
+                .all(|pair| is_kind_of_symbol(&pair.0.kind, *pair.1)),
+    )
 }
 
-fn is_word(tokens: &[Token], word: &[u8]) -> bool {
-    match tokens {
-        [token] => match &token.kind {
-            TokenKind::Word(text) => text.bytes() == word,
-            _ => false,
-        },
-        _ => false,
+// Whether the text is refused for this at this place.
+fn is_refused(alloc: Global, text: &[u8], kind: LangKind, line: u32, column: u32) -> bool {
+    match lex(alloc, text) {
+        Err(fault) => fault == LangFault::At { kind, line, column },
+        Ok(_) => false,
     }
-}
-
-fn number_in(tokens: &[Token]) -> Option<u128> {
-    match tokens {
-        [token] => match &token.kind {
-            TokenKind::Number(value) => Some(*value),
-            _ => None,
-        },
-        _ => None,
-    }
-}
-
-#[test]
-fn reads_each_symbol(rt: HostRuntime) -> Result<(), LangFault> {
-    let rows = [
-        ("..", symbols::DOTS),
-        ("==", symbols::EQUALS),
-        ("<<", symbols::SHIFT_LEFT),
-        (">>", symbols::SHIFT_RIGHT),
-        (";", symbols::SEMICOLON),
-        (":", symbols::COLON),
-        (",", symbols::COMMA),
-        ("(", symbols::OPEN_PAREN),
-        (")", symbols::CLOSE_PAREN),
-        ("[", symbols::OPEN_BRACKET),
-        ("]", symbols::CLOSE_BRACKET),
-        ("{", symbols::OPEN_BRACE),
-        ("}", symbols::CLOSE_BRACE),
-        ("=", symbols::ASSIGN),
-        ("<", symbols::LESS),
-        ("+", symbols::PLUS),
-        ("-", symbols::MINUS),
-        ("*", symbols::TIMES),
-        ("/", symbols::DIVIDE),
-        ("%", symbols::REMAINDER),
-        ("&", symbols::AND),
-        ("^", symbols::XOR),
-        ("|", symbols::OR),
-        ("!", symbols::NOT),
-    ];
-    for (text, row) in rows {
-        let tokens = lex(rt.alloc(), text.as_bytes())?;
-        assert!(rt; is_symbol(&tokens, row), "at {text}");
-    }
-    Ok(())
 }
 
 #[test]
 fn reads_each_word(rt: HostRuntime) -> Result<(), LangFault> {
-    let keywords = [
-        "workers",
-        "const",
-        "input",
-        "garbler",
-        "evaluator",
-        "let",
-        "array",
-        "move",
-        "on",
-        "for",
-        "in",
-        "if",
-        "else",
-        "output",
-        "lit",
-        "resize",
-        "mux",
-    ];
-    for word in keywords {
+    for word in ["workers", "garbler", "on", "mux"] {
         assert!(rt;
-            is_word(&lex(rt.alloc(), word.as_bytes())?, word.as_bytes()),
-            "at {word}"
-        );
-        assert!(rt;
-            is_keyword(word.as_bytes()) && !is_name(word.as_bytes()),
-            "at {word}"
+            is_word(rt.alloc(), word)? && is_keyword(word.as_bytes()),
+            "{word}"
         );
     }
     for word in ["u8", "u0", "u064"] {
         assert!(rt;
-            is_word(&lex(rt.alloc(), word.as_bytes())?, word.as_bytes()),
-            "at {word}"
-        );
-        assert!(rt;
-            is_type_word(word.as_bytes()) && !is_name(word.as_bytes()),
-            "at {word}"
+            is_word(rt.alloc(), word)? && is_type_word(word.as_bytes()),
+            "{word}"
         );
     }
-    for word in ["u", "u8x", "_", "x1_Z", "Let", "letter", "U8"] {
+    for word in ["u", "u8x", "_", "x1_Z", "Let", "letter", "min", "count"] {
         assert!(rt;
-            is_word(&lex(rt.alloc(), word.as_bytes())?, word.as_bytes()),
-            "at {word}"
-        );
-        assert!(rt; is_name(word.as_bytes()), "at {word}");
-        assert!(rt;
-            !is_keyword(word.as_bytes()) && !is_type_word(word.as_bytes()),
-            "at {word}"
+            is_word(rt.alloc(), word)? && is_name(word.as_bytes()),
+            "{word}"
         );
     }
     Ok(())
@@ -130,131 +80,57 @@ fn reads_each_word(rt: HostRuntime) -> Result<(), LangFault> {
 
 #[test]
 fn reads_numbers(rt: HostRuntime) -> Result<(), LangFault> {
-    let rows = [
-        ("0", 0),
-        ("007", 7),
-        (
-            "170141183460469231731687303715884105727",
-            170141183460469231731687303715884105727,
-        ),
-        (
-            "0000000000000000000000000000000000000000000000000000000000000000042",
-            42,
-        ),
-    ];
-    for (text, value) in rows {
-        assert_eq!(rt;
-            number_in(&lex(rt.alloc(), text.as_bytes())?),
-            Some(value),
-            "at {text}"
-        );
-    }
+    let alloc = rt.alloc();
+    assert!(rt; is_number(alloc, "007", 7)?, "leading zeros");
+    let most = "170141183460469231731687303715884105727";
+    assert!(rt; is_number(alloc, most, u128::MAX >> 1)?, "2^127 - 1");
     Ok(())
-}
-
-// Whether the tokens are the symbols of these rows.
-fn are_symbols(tokens: &[Token], rows: &[u8]) -> bool {
-    tokens.len() == rows.len()
-        && tokens
-            .iter()
-            .zip(rows.iter())
-            .all(|pair| is_kind_of_symbol(&pair.0.kind, *pair.1))
 }
 
 #[test]
 fn takes_the_longest_symbol(rt: HostRuntime) -> Result<(), LangFault> {
-    use symbols::{ASSIGN, DOTS, EQUALS, LESS, SHIFT_LEFT, SHIFT_RIGHT};
-    let rows: [(&[u8], &[u8]); 8] = [
-        (b"..", &[DOTS]),
-        (b"....", &[DOTS, DOTS]),
-        (b"==", &[EQUALS]),
-        (b"===", &[EQUALS, ASSIGN]),
-        (b"= =", &[ASSIGN, ASSIGN]),
-        (b"<<", &[SHIFT_LEFT]),
-        (b"<<<>>", &[SHIFT_LEFT, LESS, SHIFT_RIGHT]),
-        (b"< <=", &[LESS, LESS, ASSIGN]),
-    ];
-    for (text, wanted) in rows {
-        assert!(rt; are_symbols(&lex(rt.alloc(), text)?, wanted), "rows");
-    }
+    use symbols::{ASSIGN, DIVIDE, DOTS, EQUALS, LESS, SHIFT_LEFT, SHIFT_RIGHT, symbol_text};
+    let alloc = rt.alloc();
+    assert!(rt; are_symbols(alloc, b"....", &[DOTS, DOTS])?, "dots");
+    assert!(rt; are_symbols(alloc, b"===", &[EQUALS, ASSIGN])?, "equals");
+    assert!(rt;
+        are_symbols(alloc, b"<<<>>", &[SHIFT_LEFT, LESS, SHIFT_RIGHT])?,
+        "shifts"
+    );
+    assert!(rt; are_symbols(alloc, b"/ //", &[DIVIDE])?, "comment");
+    assert_eq!(rt; symbol_text(SHIFT_LEFT), "<<");
+    assert_eq!(rt; symbol_text(24), "");
     Ok(())
-}
-
-#[test]
-fn spells_each_symbol(rt: HostRuntime) -> Result<(), LangFault> {
-    for row in 0..24 {
-        let text = symbols::symbol_text(row);
-        assert!(rt;
-            is_symbol(&lex(rt.alloc(), text.as_bytes())?, row),
-            "row {row}"
-        );
-    }
-    assert_eq!(rt; symbols::symbol_text(symbols::DOTS), "..");
-    assert_eq!(rt; symbols::symbol_text(symbols::NOT), "!");
-    assert_eq!(rt; symbols::symbol_text(24), "");
-    assert_eq!(rt; symbols::symbol_text(255), "");
-    Ok(())
-}
-
-// How many tokens the text has, or what is wrong with it.
-fn outcome(alloc: Global, text: &[u8]) -> Result<usize, LangFault> {
-    Ok(lex(alloc, text)?.len())
-}
-
-#[test]
-fn cuts_texts(rt: HostRuntime) {
-    let rows: [(&[u8], usize); 11] = [
-        (b"", 0),
-        (b"a // the end", 1),
-        (b"a\n//", 1),
-        (b" \t\r\n", 0),
-        (b"a//b c", 1),
-        (b"//", 0),
-        (b"0..n", 3),
-        (b"a==b<<c=d<e", 9),
-        (b"===", 2),
-        (b"<<<>>", 3),
-        (b"a/b", 3),
-    ];
-    for (text, count) in rows {
-        assert_eq!(rt; outcome(rt.alloc(), text), Ok(count));
-    }
 }
 
 #[test]
 fn refuses_at_the_place(rt: HostRuntime) {
-    let rows: [(&[u8], LangKind, u32, u32); 14] = [
-        (b"#", LangKind::BadByte, 1, 1),
-        (b".", LangKind::BadByte, 1, 1),
-        (b"...", LangKind::BadByte, 1, 3),
-        (b"a > b", LangKind::BadByte, 1, 3),
-        (b">>>", LangKind::BadByte, 1, 3),
-        (b"a\n\xc3\xa4", LangKind::BadByte, 2, 1),
-        (b"\x00", LangKind::BadByte, 1, 1),
-        (b"1a", LangKind::BadNumber, 1, 1),
-        (b"1_", LangKind::BadNumber, 1, 1),
-        (b"x = 12u8;", LangKind::BadNumber, 1, 5),
-        (
-            b"170141183460469231731687303715884105728",
-            LangKind::BadNumber,
-            1,
-            1,
-        ),
-        (
-            b"//\n 99999999999999999999999999999999999999999",
-            LangKind::BadNumber,
-            2,
-            2,
-        ),
-        (b"\t\r#", LangKind::BadByte, 1, 3),
-        (b"1a #", LangKind::BadNumber, 1, 1),
-    ];
-    for (text, kind, line, column) in rows {
-        assert_eq!(rt;
-            outcome(rt.alloc(), text),
-            Err(LangFault::At { kind, line, column })
-        );
-    }
+    let alloc = rt.alloc();
+    assert!(rt;
+        is_refused(alloc, b"...", LangKind::BadByte, 1, 3),
+        "a dot alone"
+    );
+    assert!(rt;
+        is_refused(alloc, b"a > b", LangKind::BadByte, 1, 3),
+        "a > alone"
+    );
+    assert!(rt;
+        is_refused(alloc, b"a\n\xc3\xa4", LangKind::BadByte, 2, 1),
+        "no ASCII"
+    );
+    assert!(rt;
+        is_refused(alloc, b"x = 12u8;", LangKind::BadNumber, 1, 5),
+        "a letter"
+    );
+    let large = b"//\n 170141183460469231731687303715884105728";
+    assert!(rt;
+        is_refused(alloc, large, LangKind::BadNumber, 2, 2),
+        "2^127"
+    );
+    assert!(rt;
+        is_refused(alloc, b"1a #", LangKind::BadNumber, 1, 1),
+        "the first"
+    );
 }
 
 #[test]
@@ -274,30 +150,26 @@ fn says_where_tokens_stand(rt: HostRuntime) -> Result<(), LangFault> {
 #[test]
 fn bounds_the_text(rt: HostRuntime) -> Result<(), LangFault> {
     let most = vec![in rt.alloc(); b' '; 1_048_576]?;
-    assert_eq!(rt; outcome(rt.alloc(), &most), Ok(0));
+    assert_eq!(rt; lex(rt.alloc(), &most)?.len(), 0);
     let long = vec![in rt.alloc(); b' '; 1_048_577]?;
-    assert_eq!(rt;
-        outcome(rt.alloc(), &long),
-        Err(LangFault::At {
-            kind: LangKind::TooLong,
-            line: 0,
-            column: 0
-        })
+    assert!(rt;
+        is_refused(rt.alloc(), &long, LangKind::TooLong, 0, 0),
+        "long"
     );
     Ok(())
 }
 
 #[test]
 fn copies_tokens(rt: HostRuntime) -> Result<(), LangFault> {
-    let tokens = lex(rt.alloc(), b"ab 12 ;")?;
+    let tokens = lex(rt.alloc(), b"12")?;
     for token in &tokens {
-        let copy = token.try_clone()?;
+        let copy: Token = token.try_clone()?;
         assert_eq!(rt;
-            (copy.start, copy.len, copy.line, copy.column),
-            (token.start, token.len, token.line, token.column)
+            (copy.start, copy.len, copy.line),
+            (token.start, token.len, token.line)
         );
     }
     let text = Text::make(rt.alloc(), b"ab")?;
-    assert!(rt; text.clone()?.bytes() == text.bytes());
+    assert!(rt; text.clone()?.bytes() == text.bytes(), "text");
     Ok(())
 }

@@ -1,28 +1,29 @@
--- When a state of unrolling and a moment of the direct meaning agree: what names stand for is the same, where the
--- variables have the values that the instructions so far give.
+-- When a state of unrolling and a moment of the direct meaning agree: what names stand for is the
+-- same, where the variables have the values that the instructions so far give.
 use Rattle.std.proofs.Common.{◌≡◌, ℕ, ◌+◌, ◌<◌, List, [], ◌∷◌, ◌++◌, map, ℤ, pos, Option, Some, None, Ok, refl, sym, ap, ◌∙◌, subst}
 use Rattle.std.proofs.Math.Path.{fun_ext}
 use Rattle.std.specs.Prelude.{slice_get, unwrap_or}
 use Rattle.std.specs.Result.{result_ok}
 use Rattle.mage_lex.specs.declared.token.Token.{Token}
 use Rattle.mage_scopes.specs.Scopes.{Meaning, found}
-use Rattle.mage_syntax.specs.Words.{bytes_of}
-use Rattle.mage_syntax.specs.declared.tree.ConstExpr.{ConstExpr}
-use Rattle.mage_unroll.specs.declared.state.Emitted.{Emitted}
+use Rattle.mage_tree.specs.Words.{bytes_of}
+use Rattle.mage_tree.specs.declared.tree.ConstExpr.{ConstExpr}
+use Rattle.mage_linked.specs.declared.emitted.Emitted.{Emitted}
 use Rattle.mage_unroll.specs.declared.state.Named.{Named}
 use Rattle.mage_unroll.specs.declared.state.Named.TheVariants as named
 use Rattle.mage_unroll.specs.declared.state.Variable.{Variable}
-use Rattle.mage_unroll.specs.Constants.{constant_of}
+use Rattle.mage_constants.specs.Constants.{constant_of}
 use Rattle.mage_unroll.specs.State as state
-use Rattle.mage_unroll.specs.Unrolled.{below}
+use Rattle.mage_linked.specs.Workers.{below}
 use Rattle.mage_unroll.specs.State.{State, stepped_by}
 use Rattle.mage_meaning.specs.declared.known.Known.{Known}
 use Rattle.mage_meaning.specs.declared.known.Known.TheVariants as known
 use Rattle.mage_meaning.specs.declared.known.Wide.{Wide}
-use Rattle.mage_meaning.specs.Given.{Given, list_at}
+use Rattle.mage_linked.specs.Workers.{list_at}
+use Rattle.mage_meaning.specs.Given.{Given}
 use Rattle.mage_meaning.specs.Value as value
 use Rattle.mage_meaning.specs.Value.{Moment}
-use Rattle.mage_unroll.proofs.SoundResults.{cond_ok}
+use Rattle.mage_chains.proofs.Ends.{cond_ok}
 use Rattle.mage_meaning.proofs.Runs.{ran, Extends}
 use Rattle.mage_meaning.proofs.ScopeLemmas.{Both, SameScopes, found-Both, with_name-Same, weaker-Same}
 
@@ -44,13 +45,8 @@ Same workers values (named.Scalar scalar) (known.Number number) = (scalar.worker
 Same workers values (named.Array array) (known.Array row) = (array.worker < workers) × (array.width ≡ row.width) × StandFor (values array.worker) array.items row.values
 Same workers values _ _ = ⊥
 
-abbrev pub EachBelow : (workers : ℕ) → List Emitted → Type 0
-EachBelow workers [] = Unit {0}
-EachBelow workers (e ∷ es) = (e.worker < workers) × EachBelow workers es
-
 -- the run of a program comes to these inputs and outputs, with nothing on the way
 pub record Follows (given : Given) (workers : ℕ) (program : List Emitted) (garbler evaluator outputs : List (List ℕ)) : Type 0 where
-  pub each : EachBelow workers program
   pub garbler_left : (ran given program).garbler ≡ list_at garbler
   pub evaluator_left : (ran given program).evaluator ≡ list_at evaluator
   pub outputs_so_far : map (ran given program).outputs (below workers) ≡ outputs
@@ -84,10 +80,6 @@ Same-Extends workers before now kept _ _ h = absurd h
 pub SameNames-Extends : (given : Given) (workers : ℕ) (before now : List Emitted) (fs : List (Meaning Named)) (gs : List (Meaning Known)) → Extends (ran given before).values (ran given now).values → SameNames given workers before fs gs → SameNames given workers now fs gs
 SameNames-Extends given workers before now fs gs kept h =
     weaker-Same Named Known (Same workers (ran given before).values) (Same workers (ran given now).values) (Same-Extends workers (ran given before).values (ran given now).values kept) fs gs h
-
-pub EachBelow-push : (workers : ℕ) (program : List Emitted) (e : Emitted) → EachBelow workers program → e.worker < workers → EachBelow workers (program ++ e ∷ [])
-EachBelow-push workers [] e h k = (k, tt)
-EachBelow-push workers (e' ∷ es) e h k = (h.0, EachBelow-push workers es e h.1 k)
 
 -- only the steps change
 pub stepped-is : (n : ℕ) (word : Token) (s s' : State) → stepped_by n word s ≡ Ok s' → record s { steps = s.steps + n } ≡ s'

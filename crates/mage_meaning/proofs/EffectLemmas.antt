@@ -7,7 +7,7 @@ use Rattle.mage_scopes.proofs.Laws.{replaced-replaced}
 use Rattle.mage_meaning.specs.declared.known.Known.{Known}
 use Rattle.mage_meaning.specs.declared.known.Known.TheVariants as known
 use Rattle.mage_meaning.specs.declared.known.Row.{Row}
-use Rattle.mage_meaning.specs.Given.{list_at}
+use Rattle.mage_linked.specs.Workers.{list_at}
 use Rattle.mage_meaning.specs.Value.{as_row, first_of, without_first, with_output}
 
 -- ---- lists of lists

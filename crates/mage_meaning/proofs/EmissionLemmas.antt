@@ -6,17 +6,20 @@ use Rattle.mage_instr.specs.Opcodes.{width_of_result}
 use Rattle.mage_instr.specs.declared.instr.Instr.{Instr}
 use Rattle.mage_instr.specs.declared.op.Op.{Op}
 use Rattle.mage_lex.specs.declared.token.Token.{Token}
-use Rattle.mage_unroll.specs.declared.state.Emitted.{Emitted}
+use Rattle.mage_linked.specs.declared.emitted.Emitted.{Emitted}
 use Rattle.mage_unroll.specs.declared.state.Variable.{Variable}
-use Rattle.mage_unroll.specs.Unrolled.{below}
-use Rattle.mage_unroll.specs.State.{State, emitted, defined, count_of}
+use Rattle.mage_linked.specs.Workers.{below}
+use Rattle.mage_linked.specs.Emission.{count_of}
+use Rattle.mage_unroll.specs.State.{State, emitted, defined}
 use Rattle.mage_meaning.specs.declared.known.Wide.{Wide}
 use Rattle.mage_meaning.specs.Given.{Given}
-use Rattle.mage_meaning.specs.Means.{Running, with_value, computed, acted, arg, after_instr}
+use Rattle.mage_instr.specs.Computed.{computed}
+use Rattle.mage_meaning.specs.Means.{Running, with_value, acted, arg, after_instr}
 use Rattle.mage_meaning.specs.Value.{Moment}
-use Rattle.mage_meaning.proofs.Agree.{Stands, Follows, Agree, SameNames-Extends, EachBelow-push}
-use Rattle.mage_unroll.proofs.SoundResults.{cond_ok, then_ok, same_Ok}
-use Rattle.mage_meaning.proofs.Runs.{ran, ran-push, length_ran, slice_get_last, with_at-same, Extends, Extends-ran}
+use Rattle.mage_meaning.proofs.Agree.{Stands, Follows, Agree, SameNames-Extends}
+use Rattle.mage_unroll.proofs.SoundStates.{after_emission, defined_is}
+use Rattle.mage_linked.proofs.WorkerLemmas.{with_at-same}
+use Rattle.mage_meaning.proofs.Runs.{ran, ran-push, length_ran, slice_get_last, Extends, Extends-ran}
 
 -- a state after the variable of a number is known
 pub record Evaluates (given : Given) (workers : ℕ) (s s' : State) (m : Moment) (variable : Variable) (number : Wide) : Type 0 where
@@ -28,10 +31,6 @@ pub record Evaluates (given : Given) (workers : ℕ) (s s' : State) (m : Moment)
 -- an opcode that computes on its arguments
 abbrev pub Computes : Op → Type 0
 Computes o = (worker : ℕ) (i : Instr) (r : Running) → acted o worker i r ≡ with_value worker (computed o i.width i.imm (arg r worker i 0) (arg r worker i 1) (arg r worker i 2)) r
-
--- the state once an instruction is emitted
-abbrev pub after_emission : (worker : ℕ) → Instr → State → State
-after_emission worker i s = record s { program = s.program ++ record { worker = worker; instr = i } ∷ [] }
 
 module _ (given : Given) (workers : ℕ) where
   pub then_Evaluates : (s1 s2 s3 : State) (m : Moment) (a b : Variable) (x y : Wide) → Evaluates given workers s1 s2 m a x → Evaluates given workers s2 s3 m b y → Evaluates given workers s1 s3 m b y
@@ -45,15 +44,6 @@ module _ (given : Given) (workers : ℕ) where
   pub value_of_variable : (s : State) (worker : ℕ) (a : Variable) (x : Wide) → Stands ((ran given s.program).values worker) a x → slice_index ((ran given s.program).values worker) a.index ≡ x.value
   value_of_variable s worker a x h = get_or_from_slice_get ((ran given s.program).values worker) a.index x.value 0 h.0
 
-  pub emitted_is : (word : Token) (worker : ℕ) (i : Instr) (s s' : State) → emitted word worker i s ≡ Ok s' → after_emission worker i s ≡ s'
-  emitted_is word worker i s s' h = (cond_ok _ (after_emission worker i s) s' _ h).1
-
-  pub defined_is : (word : Token) (i : Instr) (s s' : State) (v : Variable) → defined word i s ≡ Ok (v, s') → (after_emission s.worker i s ≡ s') × (record { width = width_of_result i.op i.width; index = count_of s.worker s.program } ≡ v)
-  defined_is word i s s' v h =
-      let step = then_ok (emitted word s.worker i s) _ (v, s') h in
-      let same = same_Ok _ (v, s') step.2 in
-      (emitted_is word s.worker i s step.0 step.1 ∙ ap (λ (p : Variable × State). p.1) same, ap (λ (p : Variable × State). p.0) same)
-
   -- the value of the last instruction
   pub last_value : (program : List Emitted) (e : Emitted) (value : ℕ) (r : Running) → r.values ≡ (ran given program).values → ran given (program ++ e ∷ []) ≡ with_value e.worker value r → slice_get ((ran given (program ++ e ∷ [])).values e.worker) (count_of e.worker program) ≡ Some value
   last_value program e value r same h =
@@ -65,7 +55,6 @@ module _ (given : Given) (workers : ℕ) where
   Follows-value : (program : List Emitted) (e : Emitted) (value : ℕ) (g ev o : List (List ℕ)) → ran given (program ++ e ∷ []) ≡ with_value e.worker value (ran given program) → e.worker < workers → Follows given workers program g ev o → Follows given workers (program ++ e ∷ []) g ev o
   Follows-value program e value g ev o h in_range f =
       record {
-        each = EachBelow-push workers program e f.each in_range;
         garbler_left = ap (λ (x : Running). x.garbler) h ∙ f.garbler_left;
         evaluator_left = ap (λ (x : Running). x.evaluator) h ∙ f.evaluator_left;
         outputs_so_far = ap (λ (x : Running). map x.outputs (below workers)) h ∙ f.outputs_so_far;
@@ -97,5 +86,5 @@ module _ (given : Given) (workers : ℕ) where
   pub Evaluates-defined : (word : Token) (i : Instr) (s s' : State) (m : Moment) (v : Variable) (x : Wide) → Agree given workers s m → Computes i.op → width_of_result i.op i.width ≡ x.width → computed i.op i.width i.imm (arg (ran given s.program) s.worker i 0) (arg (ran given s.program) s.worker i 1) (arg (ran given s.program) s.worker i 2) ≡ x.value → defined word i s ≡ Ok (v, s') → Evaluates given workers s s' m v x
   Evaluates-defined word i s s' m v x a computes width value h =
       let is = defined_is word i s s' v h in
-      subst (λ v'. Evaluates given workers s s' m v' x) is.1
-      (subst (λ after. Evaluates given workers s after m (record { width = width_of_result i.op i.width; index = count_of s.worker s.program }) x) is.0 (Evaluates-emission s m i x a computes width value))
+      subst (λ v'. Evaluates given workers s s' m v' x) is.2
+      (subst (λ after. Evaluates given workers s after m (record { width = width_of_result i.op i.width; index = count_of s.worker s.program }) x) is.1 (Evaluates-emission s m i x a computes width value))

@@ -1,32 +1,44 @@
 -- The variable of an expression has the expression's number.
-use Rattle.std.proofs.Common.{mod-eq_of_lt, Some, ◌≡◌, ℕ, Bool, true, false, cond, eqb, List, [], ◌∷◌, map, Ok, refl, sym, ap, ◌∙◌, subst}
-use Rattle.std.specs.Prelude.{◌^◌, ◌<◌, ◌&&◌, int_le, int_lt, ℤ, pos, slice_index, unsigned_abs}
-use Rattle.std.proofs.lemmas.Bool.{and_parts, eqb-true}
+use Rattle.std.proofs.Common.{mod-eq_of_lt, Option, Some, None, ◌≡◌, ℕ, ◌+◌, Bool, true, false, cond, eqb, List, [], ◌∷◌, map, Ok, refl, sym, ap, ◌∙◌, subst, arith}
+use Rattle.std.specs.Prelude.{◌^◌, ◌<◌, min, slice_index, unsigned_abs}
+use Rattle.std.proofs.lemmas.Bool.{eqb-true}
 use Rattle.mage_bits.specs.Modular as modular
-use Rattle.mage_instr.specs.Opcodes.{width_of_result}
+use Rattle.mage_instr.specs.Computed.{computed}
+use Rattle.mage_instr.specs.Opcodes.{greatest_width, width_of_result}
 use Rattle.mage_instr.specs.declared.op.Op.{Op}
 use Rattle.mage_instr.specs.declared.op.Op.TheVariants as op
-use Rattle.mage_lex.specs.declared.symbols.TheConstants.{EQUALS, SHIFT_LEFT, LESS, PLUS, MINUS, TIMES, AND, XOR}
+use Rattle.mage_lex.specs.Symbols.{EQUALS, SHIFT_LEFT, SHIFT_RIGHT, LESS, PLUS, MINUS, TIMES, DIVIDE, REMAINDER, AND, XOR, OR}
+use Rattle.mage_lex.specs.declared.fault.LangKind.TheVariants as wrong
 use Rattle.mage_lex.specs.declared.token.Token.{Token}
-use Rattle.mage_syntax.specs.declared.tree.ConstExpr.{ConstExpr}
-use Rattle.mage_syntax.specs.declared.tree.Expr.{Expr, map-Expr, roll-Expr}
-use Rattle.mage_syntax.specs.declared.tree.Expr.TheOpen.{Expr-F}
-use Rattle.mage_syntax.specs.declared.tree.Expr.TheFolds.{fold-roll-Expr, ind-Expr}
+use Rattle.mage_tree.specs.Words.{bytes_of, callable_of}
+use Rattle.mage_tree.specs.declared.class.Callable.{Callable}
+use Rattle.mage_tree.specs.declared.class.Callable.TheVariants as callable
+use Rattle.mage_tree.specs.declared.tree.ConstExpr.{ConstExpr}
+use Rattle.mage_tree.specs.declared.tree.Expr.{Expr, map-Expr, roll-Expr}
+use Rattle.mage_tree.specs.declared.tree.Expr.TheOpen.{Expr-F}
+use Rattle.mage_tree.specs.declared.tree.Expr.TheFolds.{fold-roll-Expr, ind-Expr}
 use Rattle.mage_unroll.specs.declared.state.Variable.{Variable}
-use Rattle.mage_unroll.specs.Constants.{row_of, constant_of}
+use Rattle.mage_constants.specs.Answer.{or_fault}
+use Rattle.mage_constants.specs.Tokens.{row_of}
+use Rattle.mage_constants.specs.Constants.{constant_of}
 use Rattle.mage_unroll.specs.State as state
 use Rattle.mage_unroll.specs.State.{State, instr_of, defined, own_place, width_at, is_as_wide}
 use Rattle.mage_unroll.specs.Expressions as unroll
 use Rattle.mage_unroll.specs.Expressions.{ExprMeaning, op_of, shift_of, amount_in, literal_in, expr_layer, variable_of}
 use Rattle.mage_meaning.specs.declared.known.Wide.{Wide}
 use Rattle.mage_meaning.specs.Given.{Given}
-use Rattle.mage_meaning.specs.Means.{computed, arg}
+use Rattle.mage_meaning.specs.Means.{arg}
 use Rattle.mage_meaning.specs.Value as value
 use Rattle.mage_meaning.specs.Value.{Moment, wide, ExprValue, value_layer, number_of_expr}
 use Rattle.mage_meaning.proofs.Agree.{Stands, Agree, constant-Agree}
 use Rattle.mage_meaning.proofs.EmissionLemmas.{Evaluates, Computes, then_Evaluates, Stands-Extends, value_of_variable, Evaluates-defined}
-use Rattle.mage_meaning.proofs.PlaceLemmas.{place_of-Held, own_place-is, width_at-is}
-use Rattle.mage_unroll.proofs.SoundResults.{below_from_test, cond_ok, cond_some, then_ok, same_Ok, err_not_ok, or_fault_ok}
+use Rattle.mage_unroll.proofs.SoundExpressions.{below_power}
+use Rattle.mage_unroll.proofs.SoundPlaces.{own_place-is}
+use Rattle.mage_unroll.specs.Limits.{LITERAL_BITS}
+use Rattle.mage_meaning.proofs.PlaceLemmas.{place_of-Held, width_at-is}
+use Rattle.mage_chains.proofs.Ends.{cond_ok, then_ok, same_Ok, same_Some, err_not_ok, none_not_some}
+use Rattle.mage_constants.proofs.Trees.{or_fault_ok}
+use Rattle.mage_constants.proofs.RangeLemmas.{number_below-is}
 use Rattle.mage_meaning.proofs.Runs.{ran, Extends}
 
 -- ---- the opcode of each operator
@@ -37,11 +49,11 @@ record Fits (o : Op) (width imm x y : ℕ) (number : Wide) : Type 0 where
   width_is : width_of_result o width ≡ number.width
   value_is : (z : ℕ) → computed o width imm x y z ≡ number.value
 
-cond-Fits : (test : Bool) (o o' : Op) (width imm x y : ℕ) (a b : Wide) → Fits o width imm x y a → Fits o' width imm x y b → Fits (cond test o o') width imm x y (cond test a b)
-cond-Fits true o o' width imm x y a b h k = h
-cond-Fits false o o' width imm x y a b h k = k
+cond-Fits : (test : Bool) (o : Op) (other : Option Op) (width imm x y : ℕ) (a b : Wide) → Fits o width imm x y a → ((p : Op) → other ≡ Some p → Fits p width imm x y b) → (p : Op) → cond test (Some o) other ≡ Some p → Fits p width imm x y (cond test a b)
+cond-Fits true o other width imm x y a b h k p e = subst (λ q. Fits q width imm x y a) (same_Some o p e) h
+cond-Fits false o other width imm x y a b h k p e = k p e
 
-op_of-Fits : (token : Token) (a b : Wide) → Fits (op_of token) a.width 0 a.value b.value (value.combined token a b)
+op_of-Fits : (token : Token) (a b : Wide) (o : Op) → op_of token ≡ Some o → Fits o a.width 0 a.value b.value (value.combined token a b)
 unfolding op_of value.combined
 op_of-Fits token a b =
     let row = row_of token in
@@ -51,17 +63,22 @@ op_of-Fits token a b =
     cond-Fits (eqb row PLUS) op.Add _ w 0 x y _ _ (record { computes = λ w i r. refl; width_is = refl; value_is = λ z. refl }) (
     cond-Fits (eqb row MINUS) op.Sub _ w 0 x y _ _ (record { computes = λ w i r. refl; width_is = refl; value_is = λ z. refl }) (
     cond-Fits (eqb row TIMES) op.Mul _ w 0 x y _ _ (record { computes = λ w i r. refl; width_is = refl; value_is = λ z. refl }) (
+    cond-Fits (eqb row DIVIDE) op.Div _ w 0 x y _ _ (record { computes = λ w i r. refl; width_is = refl; value_is = λ z. refl }) (
+    cond-Fits (eqb row REMAINDER) op.Rem _ w 0 x y _ _ (record { computes = λ w i r. refl; width_is = refl; value_is = λ z. refl }) (
     cond-Fits (eqb row AND) op.And _ w 0 x y _ _ (record { computes = λ w i r. refl; width_is = refl; value_is = λ z. refl }) (
     cond-Fits (eqb row XOR) op.Xor _ w 0 x y _ _ (record { computes = λ w i r. refl; width_is = refl; value_is = λ z. refl }) (
+    cond-Fits (eqb row OR) op.Or _ w 0 x y _ _ (record { computes = λ w i r. refl; width_is = refl; value_is = λ z. refl }) (
     cond-Fits (eqb row EQUALS) op.Eq _ w 0 x y _ _ (record { computes = λ w i r. refl; width_is = refl; value_is = λ z. refl }) (
-    cond-Fits (eqb row LESS) op.Lt op.Or w 0 x y _ _ (record { computes = λ w i r. refl; width_is = refl; value_is = λ z. refl })
-    (record { computes = λ w i r. refl; width_is = refl; value_is = λ z. refl })))))))
+    cond-Fits (eqb row LESS) op.Lt _ w 0 x y _ _ (record { computes = λ w i r. refl; width_is = refl; value_is = λ z. refl }) (
+    λ p e. absurd (none_not_some p e)))))))))))
 
-shift_of-Fits : (token : Token) (a : Wide) (amount y : ℕ) → Fits (shift_of token) a.width amount a.value y (value.shifted token a amount)
+shift_of-Fits : (token : Token) (a : Wide) (amount y : ℕ) (o : Op) → shift_of token ≡ Some o → Fits o a.width amount a.value y (value.shifted token a amount)
 unfolding shift_of value.shifted
 shift_of-Fits token a amount y =
-    cond-Fits (eqb (row_of token) SHIFT_LEFT) op.Shl op.Shr a.width amount a.value y _ _ (record { computes = λ w i r. refl; width_is = refl; value_is = λ z. refl })
-    (record { computes = λ w i r. refl; width_is = refl; value_is = λ z. refl })
+    let row = row_of token in
+    cond-Fits (eqb row SHIFT_LEFT) op.Shl _ a.width amount a.value y _ _ (record { computes = λ w i r. refl; width_is = refl; value_is = λ z. refl }) (
+    cond-Fits (eqb row SHIFT_RIGHT) op.Shr _ a.width amount a.value y _ _ (record { computes = λ w i r. refl; width_is = refl; value_is = λ z. refl }) (
+    λ p e. absurd (none_not_some p e)))
 
 same_computed : (o : Op) (w w' imm x x' y y' z : ℕ) → w ≡ w' → x ≡ x' → y ≡ y' → computed o w imm x y z ≡ computed o w' imm x' y' z
 same_computed o w w' imm x x' y y' z p q r = cc
@@ -76,13 +93,6 @@ cond-width false width y z p q = q
 cond-value : (test : Bool) (y z : Wide) → (cond test y z).value ≡ cond test y.value z.value
 cond-value true y z = refl
 cond-value false y z = refl
-
--- a literal is below 2 to its width
-literal_in-is : (width : ℕ) (z : ℤ) (n : ℕ) → literal_in width z ≡ Some n → (unsigned_abs z ≡ n) × (n < 2 ^ width)
-literal_in-is width z n h =
-    let c = cond_some (int_le (pos 0) z && int_lt z (pos (2 ^ width))) (unsigned_abs z) n h in
-    let both = and_parts (int_le (pos 0) z) (int_lt z (pos (2 ^ width))) c.0 in
-    (c.1, subst (λ k. k < 2 ^ width) c.1 (below_from_test (2 ^ width) z both.0 both.1))
 
 -- variables stand for numbers, one for each
 abbrev AllStand : (values : List ℕ) → List Variable → List Wide → Type 0
@@ -108,21 +118,32 @@ module _ (given : Given) (workers : ℕ) where
       Evaluates-defined given workers word i s s' m v n agree fits.computes (ap (width_of_result o) stands.1 ∙ fits.width_is)
       (same_computed o a.width x.width imm _ x.value _ y (arg r s.worker i 2) stands.1 (arg-is s m a x agree stands) there ∙ fits.value_is (arg r s.worker i 2)) h
 
+  one-Evaluates : (o : Op) (word : Token) (a : Variable) (imm : ℕ) (x n : Wide) (s s' : State) (m : Moment) (v : Variable) → Agree given workers s m → Stands ((ran given s.program).values m.worker) a x → ((y : ℕ) → Fits o x.width imm x.value y n) → unroll.of_one o word a imm s ≡ Ok (v, s') → Evaluates given workers s s' m v n
+  one-Evaluates o word a imm x n s s' m v agree ha fits h = applied o word a 0 imm _ x n s s' m v agree ha refl (fits _) h
+
+  two-Evaluates : (o : Op) (word token : Token) (a b : Variable) (x y n : Wide) (s s' : State) (m : Moment) (v : Variable) → Agree given workers s m → Stands ((ran given s.program).values m.worker) a x → Stands ((ran given s.program).values m.worker) b y → Fits o x.width 0 x.value y.value n → unroll.of_two o word token a b s ≡ Ok (v, s') → Evaluates given workers s s' m v n
+  unfolding unroll.of_two
+  two-Evaluates o word token a b x y n s s' m v agree ha hb fits h =
+      let same = then_ok (is_as_wide token a.width b.width) _ (v, s') h in
+      applied o word a b.index 0 y.value x n s s' m v agree ha (arg-is s m b y agree hb) fits same.2
+
   combined-Evaluates : (word token : Token) (a b : Variable) (x y : Wide) (s s' : State) (m : Moment) (v : Variable) → Agree given workers s m → Stands ((ran given s.program).values m.worker) a x → Stands ((ran given s.program).values m.worker) b y → unroll.combined word token a b s ≡ Ok (v, s') → Evaluates given workers s s' m v (value.combined token x y)
   unfolding unroll.combined
   combined-Evaluates word token a b x y s s' m v agree ha hb h =
-      let wide = then_ok (is_as_wide token a.width b.width) _ (v, s') h in
-      applied (op_of token) word a b.index 0 y.value x (value.combined token x y) s s' m v agree ha (arg-is s m b y agree hb) (op_of-Fits token x y) wide.2
+      let o = then_ok (or_fault wrong.WidthDiffers token (op_of token)) _ (v, s') h in
+      let fits = op_of-Fits token x y o.0 (or_fault_ok _ token (op_of token) o.0 o.1) in
+      two-Evaluates o.0 word token a b x y (value.combined token x y) s s' m v agree ha hb fits o.2
 
   shifted-Evaluates : (word token : Token) (amount : ConstExpr) (a : Variable) (x : Wide) (s s' : State) (m : Moment) (v : Variable) → Agree given workers s m → Stands ((ran given s.program).values m.worker) a x → unroll.shifted word token amount a s ≡ Ok (v, s') → Evaluates given workers s s' m v (value.shifted token x (value.number_in amount m))
   unfolding unroll.shifted
   shifted-Evaluates word token amount a x s s' m v agree ha h =
       let z = then_ok (constant_of amount (state.constants_of s)) _ (v, s') h in
       let places = then_ok _ _ (v, s') z.2 in
-      let n = (cond_some _ (unsigned_abs z.0) places.0 (or_fault_ok _ token (amount_in z.0) places.0 places.1)).1 in
+      let o = then_ok (or_fault wrong.WidthDiffers token (shift_of token)) _ (v, s') places.2 in
+      let n = (number_below-is (greatest_width + 1) z.0 places.0 (or_fault_ok _ token (amount_in z.0) places.0 places.1)).0 in
       let e = ap unsigned_abs (constant-Agree given workers s m amount z.0 agree z.1) ∙ n in
       subst (λ k. Evaluates given workers s s' m v (value.shifted token x k)) (sym e)
-      (applied (shift_of token) word a 0 places.0 _ x (value.shifted token x places.0) s s' m v agree ha refl (shift_of-Fits token x places.0 _) places.2)
+      (one-Evaluates o.0 word a places.0 x (value.shifted token x places.0) s s' m v agree ha (λ y. shift_of-Fits token x places.0 y o.0 (or_fault_ok _ token (shift_of token) o.0 o.1)) o.2)
 
   -- ---- chains and choices
 
@@ -168,6 +189,34 @@ module _ (given : Given) (workers : ℕ) where
   chosen-Evaluates word keyword (c ∷ []) xs s s' m v agree all h = absurd (err_not_ok _ (v, s') h)
   chosen-Evaluates word keyword (c ∷ a ∷ []) xs s s' m v agree all h = absurd (err_not_ok _ (v, s') h)
   chosen-Evaluates word keyword (c ∷ a ∷ b ∷ d ∷ vs) xs s s' m v agree all h = absurd (err_not_ok _ (v, s') h)
+
+  -- ---- calls
+
+  call_of_one-Evaluates : (o : Op) (which : Option Callable) (word keyword : Token) (vs : List Variable) (xs : List Wide) (s s' : State) (m : Moment) (v : Variable) → ((x : Wide) (y : ℕ) → Fits o x.width 0 x.value y (value.call_of_one which x)) → Agree given workers s m → AllStand ((ran given s.program).values m.worker) vs xs → unroll.call_of_one o word keyword vs s ≡ Ok (v, s') → Evaluates given workers s s' m v (value.call_by which xs)
+  call_of_one-Evaluates o which word keyword (a ∷ []) (x ∷ []) s s' m v fits agree all h = one-Evaluates o word a 0 x (value.call_of_one which x) s s' m v agree all.0 (fits x) h
+  call_of_one-Evaluates o which word keyword (a ∷ []) [] s s' m v fits agree all h = absurd all
+  call_of_one-Evaluates o which word keyword (a ∷ []) (x ∷ y ∷ xs) s s' m v fits agree all h = absurd all.1
+  call_of_one-Evaluates o which word keyword [] xs s s' m v fits agree all h = absurd (err_not_ok _ (v, s') h)
+  call_of_one-Evaluates o which word keyword (a ∷ b ∷ vs) xs s s' m v fits agree all h = absurd (err_not_ok _ (v, s') h)
+
+  call_of_two-Evaluates : (o : Op) (which : Option Callable) (word keyword : Token) (vs : List Variable) (xs : List Wide) (s s' : State) (m : Moment) (v : Variable) → ((x y : Wide) → Fits o x.width 0 x.value y.value (value.call_of_two which x y)) → Agree given workers s m → AllStand ((ran given s.program).values m.worker) vs xs → unroll.call_of_two o word keyword vs s ≡ Ok (v, s') → Evaluates given workers s s' m v (value.call_by which xs)
+  call_of_two-Evaluates o which word keyword (a ∷ b ∷ []) (x ∷ y ∷ []) s s' m v fits agree all h = two-Evaluates o word keyword a b x y (value.call_of_two which x y) s s' m v agree all.0 all.1.0 (fits x y) h
+  call_of_two-Evaluates o which word keyword (a ∷ b ∷ []) [] s s' m v fits agree all h = absurd all
+  call_of_two-Evaluates o which word keyword (a ∷ b ∷ []) (x ∷ []) s s' m v fits agree all h = absurd all.1
+  call_of_two-Evaluates o which word keyword (a ∷ b ∷ []) (x ∷ y ∷ z ∷ xs) s s' m v fits agree all h = absurd all.1.1
+  call_of_two-Evaluates o which word keyword [] xs s s' m v fits agree all h = absurd (err_not_ok _ (v, s') h)
+  call_of_two-Evaluates o which word keyword (a ∷ []) xs s s' m v fits agree all h = absurd (err_not_ok _ (v, s') h)
+  call_of_two-Evaluates o which word keyword (a ∷ b ∷ d ∷ vs) xs s s' m v fits agree all h = absurd (err_not_ok _ (v, s') h)
+
+  call_by-Evaluates : (which : Option Callable) (word keyword : Token) (vs : List Variable) (xs : List Wide) (s s' : State) (m : Moment) (v : Variable) → Agree given workers s m → AllStand ((ran given s.program).values m.worker) vs xs → unroll.call_by which word keyword vs s ≡ Ok (v, s') → Evaluates given workers s s' m v (value.call_by which xs)
+  call_by-Evaluates (Some callable.Min) word keyword vs xs s s' m v agree all h = call_of_two-Evaluates op.Min (Some callable.Min) word keyword vs xs s s' m v (λ x y. record { computes = λ w i r. refl; width_is = refl; value_is = λ z. refl }) agree all h
+  call_by-Evaluates (Some callable.Max) word keyword vs xs s s' m v agree all h = call_of_two-Evaluates op.Max (Some callable.Max) word keyword vs xs s s' m v (λ x y. record { computes = λ w i r. refl; width_is = refl; value_is = λ z. refl }) agree all h
+  call_by-Evaluates (Some callable.Count) word keyword vs xs s s' m v agree all h = call_of_one-Evaluates op.Count (Some callable.Count) word keyword vs xs s s' m v (λ x y. record { computes = λ w i r. refl; width_is = refl; value_is = λ z. refl }) agree all h
+  call_by-Evaluates None word keyword vs xs s s' m v agree all h = absurd (err_not_ok _ (v, s') h)
+
+  called-Evaluates : (word keyword : Token) (vs : List Variable) (xs : List Wide) (s s' : State) (m : Moment) (v : Variable) → Agree given workers s m → AllStand ((ran given s.program).values m.worker) vs xs → unroll.called word keyword vs s ≡ Ok (v, s') → Evaluates given workers s s' m v (value.called keyword xs)
+  unfolding unroll.called value.called
+  called-Evaluates word keyword vs xs s s' m v agree all h = call_by-Evaluates (callable_of (bytes_of keyword)) word keyword vs xs s s' m v agree all h
 
   module _ (X : Type 0) (f : X → ExprMeaning) (g : X → ExprValue) (Y : Type 0) (base : Y → X) (law : (t : Y) → ExprLaw (f (base t)) (g (base t))) where
     chained-Evaluates : (terms : List (Token × Y)) (word : Token) (a : Variable) (x : Wide) (s s' : State) (m : Moment) (v : Variable) → Agree given workers s m → Stands ((ran given s.program).values m.worker) a x → unroll.chained (map (λ (t : Token × X). (t.0, f t.1)) (map (λ (t : Token × Y). (t.0, base t.1)) terms)) word a s ≡ Ok (v, s') → Evaluates given workers s s' m v (value.chained (map (λ (t : Token × X). (t.0, g t.1)) (map (λ (t : Token × Y). (t.0, base t.1)) terms)) x m)
@@ -218,16 +267,17 @@ module _ (given : Given) (workers : ℕ) where
         let a = then_ok (f (base operand) word s) _ (v, s') h in
         let x = g (base operand) m in
         let one = law operand word s a.0.1 m a.0.0 agree a.1 in
-        let two = applied op.Not word a.0.0 0 0 _ x (wide x.width (modular.not_mod x.width x.value)) a.0.1 s' m v one.agree one.stands refl (record { computes = λ w i r. refl; width_is = refl; value_is = λ z. refl }) a.2 in
+        let two = one-Evaluates op.Not word a.0.0 0 x (wide x.width (modular.not_mod x.width x.value)) a.0.1 s' m v one.agree one.stands (λ y. record { computes = λ w i r. refl; width_is = refl; value_is = λ z. refl }) a.2 in
         then_Evaluates given workers s a.0.1 s' m a.0.0 v x _ one two
     layer-Law (Expr-F.Lit keyword ty e) word s s' m v agree h =
         let w = then_ok (width_at ty) _ (v, s') h in
         let z = then_ok (constant_of e (state.constants_of s)) _ (v, s') w.2 in
         let literal = then_ok _ _ (v, s') z.2 in
-        let n = literal_in-is w.0 z.0 literal.0 (or_fault_ok _ keyword (literal_in w.0 z.0) literal.0 literal.1) in
+        let n = number_below-is (2 ^ min w.0 LITERAL_BITS) z.0 literal.0 (or_fault_ok _ keyword (literal_in w.0 z.0) literal.0 literal.1) in
+        let small : literal.0 < 2 ^ w.0 = below_power literal.0 (min w.0 LITERAL_BITS) w.0 (omega arith) n.1 in
         let width = sym (width_at-is ty w.0 w.1) in
         let same = ap unsigned_abs (constant-Agree given workers s m e z.0 agree z.1) ∙ n.0 in
-        let number = sym (mod-eq_of_lt n.1) ∙ ap (λ k. modular.resize_mod w.0 k) (sym same) ∙ ap (λ k. modular.resize_mod k (value.number_in e m)) width in
+        let number = sym (mod-eq_of_lt small) ∙ ap (λ k. modular.resize_mod w.0 k) (sym same) ∙ ap (λ k. modular.resize_mod k (value.number_in e m)) width in
         Evaluates-defined given workers word (instr_of op.Const w.0 (0 ∷ 0 ∷ 0 ∷ []) literal.0) s s' m v (wide (value.width_or_one ty) (modular.resize_mod (value.width_or_one ty) (value.number_in e m))) agree
         (λ w i r. refl) width number literal.2
     layer-Law (Expr-F.Resize keyword ty operand) word s s' m v agree h =
@@ -244,6 +294,11 @@ module _ (given : Given) (workers : ℕ) where
         let vs = then_ok (unroll.all_of (map f (map base args)) word s) _ (v, s') h in
         let all = all_of-Evaluates args word s vs.0.1 m vs.0.0 agree vs.1 in
         let last = chosen-Evaluates word keyword vs.0.0 _ vs.0.1 s' m v all.agree all.stand vs.2 in
+        record { agree = last.agree; stands = last.stands; kept = λ w i z e. last.kept w i z (all.kept w i z e); same_scopes = last.same_scopes ∙ all.same_scopes }
+    layer-Law (Expr-F.Call keyword args) word s s' m v agree h =
+        let vs = then_ok (unroll.all_of (map f (map base args)) word s) _ (v, s') h in
+        let all = all_of-Evaluates args word s vs.0.1 m vs.0.0 agree vs.1 in
+        let last = called-Evaluates word keyword vs.0.0 _ vs.0.1 s' m v all.agree all.stand vs.2 in
         record { agree = last.agree; stands = last.stands; kept = λ w i z e. last.kept w i z (all.kept w i z e); same_scopes = last.same_scopes ∙ all.same_scopes }
 
   roll-Law : (Y : Type 0) (base : Y → Expr) (law : (t : Y) → ExprLaw (variable_of (base t)) (number_of_expr (base t))) (e : Expr-F Y) → ExprLaw (variable_of (roll-Expr (map-Expr Y Expr base e))) (number_of_expr (roll-Expr (map-Expr Y Expr base e)))

@@ -4,22 +4,28 @@ use Rattle.std.specs.Prelude.{slice_get, slice_index, unsigned_abs}
 use Rattle.std.proofs.lemmas.List.{append-nil, append_assoc}
 use Rattle.mage_instr.specs.declared.op.Op.TheVariants as op
 use Rattle.mage_lex.specs.declared.token.Token.{Token}
-use Rattle.mage_syntax.specs.declared.tree.ConstExpr.{ConstExpr}
-use Rattle.mage_unroll.specs.declared.state.Emitted.{Emitted}
+use Rattle.mage_tree.specs.declared.tree.ConstExpr.{ConstExpr}
+use Rattle.mage_linked.specs.declared.emitted.Emitted.{Emitted}
 use Rattle.mage_unroll.specs.declared.state.Variable.{Variable}
-use Rattle.mage_unroll.specs.Constants.{constant_of}
-use Rattle.mage_unroll.specs.Unrolled.{below}
+use Rattle.mage_constants.specs.Constants.{constant_of}
+use Rattle.mage_linked.specs.Workers.{below}
 use Rattle.mage_unroll.specs.State as state
-use Rattle.mage_unroll.specs.State.{State, instr_of, defined, stepped, count_of}
-use Rattle.mage_unroll.specs.Statements.{party_of, inputs, input_of, length_in, length_at, named_scalar, named_array}
+use Rattle.mage_linked.specs.Emission.{count_of}
+use Rattle.mage_unroll.specs.State.{State, instr_of, defined, stepped}
+use Rattle.mage_unroll.specs.Statements.{party_of, inputs, input_of, length_at, named_scalar, named_array}
 use Rattle.mage_meaning.specs.declared.known.Known.TheVariants as known
-use Rattle.mage_meaning.specs.Given.{Given, list_at, with_at}
+use Rattle.mage_linked.specs.Workers.{list_at, with_at}
+use Rattle.mage_meaning.specs.Given.{Given}
 use Rattle.mage_meaning.specs.Means.{Running, with_value, after_instr}
 use Rattle.mage_meaning.specs.Value as value
 use Rattle.mage_meaning.specs.Value.{Moment, wide, first_of, without_first, is_evaluator, taken, after_taking, with_input}
-use Rattle.mage_meaning.proofs.Agree.{Stands, StandFor, StandFor-Extends, Agree, SameNames-Extends, EachBelow-push, stepped-is, Agree-bound, Agree-stepped, constant-Agree}
-use Rattle.mage_meaning.proofs.EmissionLemmas.{after_emission, defined_is, last_value}
-use Rattle.mage_unroll.proofs.SoundResults.{cond_some, then_ok, same_Ok, or_fault_ok}
+use Rattle.mage_meaning.proofs.Agree.{Stands, StandFor, StandFor-Extends, Agree, SameNames-Extends, stepped-is, Agree-bound, Agree-stepped, constant-Agree}
+use Rattle.mage_unroll.proofs.SoundStates.{after_emission, defined_is}
+use Rattle.mage_meaning.proofs.EmissionLemmas.{last_value}
+use Rattle.mage_chains.proofs.Ends.{then_ok, same_Ok}
+use Rattle.mage_constants.specs.Ranges.{size_in}
+use Rattle.mage_constants.proofs.RangeLemmas.{size_in-is}
+use Rattle.mage_constants.proofs.Trees.{or_fault_ok}
 use Rattle.mage_meaning.proofs.Runs.{ran, ran-push, Extends, Extends-ran}
 use Rattle.mage_meaning.proofs.WorkerLists.{at-without_first, list_at-without_first, without_none, without_again}
 
@@ -85,7 +91,6 @@ module _ (given : Given) (workers : ℕ) where
           count = a.count;
           names = SameNames-Extends given workers p (p ++ e ∷ []) s.scopes m.scopes kept a.names;
           follows = record {
-            each = EachBelow-push workers p e a.follows.each a.within;
             garbler_left = ap (λ (x : Running). x.garbler) run ∙ a.follows.garbler_left;
             evaluator_left = ap (λ (x : Running). x.evaluator) run ∙ same_drop r.evaluator m.evaluator s.worker m.worker a.follows.evaluator_left a.worker;
             outputs_so_far = ap (λ (x : Running). map x.outputs (below workers)) run ∙ a.follows.outputs_so_far;
@@ -111,7 +116,6 @@ module _ (given : Given) (workers : ℕ) where
           count = a.count;
           names = SameNames-Extends given workers p (p ++ e ∷ []) s.scopes m.scopes kept a.names;
           follows = record {
-            each = EachBelow-push workers p e a.follows.each a.within;
             garbler_left = ap (λ (x : Running). x.garbler) run ∙ same_drop r.garbler m.garbler s.worker m.worker a.follows.garbler_left a.worker;
             evaluator_left = ap (λ (x : Running). x.evaluator) run ∙ a.follows.evaluator_left;
             outputs_so_far = ap (λ (x : Running). map x.outputs (below workers)) run ∙ a.follows.outputs_so_far;
@@ -124,9 +128,9 @@ module _ (given : Given) (workers : ℕ) where
 
   Takes-defined : (word : Token) (test : Bool) (s s' : State) (m : Moment) (width : ℕ) (v : Variable) → Agree given workers s m → defined word (instr_of op.Input width (0 ∷ 0 ∷ 0 ∷ []) (cond test 1 0)) s ≡ Ok (v, s') → Takes test s s' m width v
   Takes-defined word test s s' m width v a h =
-      let is = defined_is given workers word (instr_of op.Input width (0 ∷ 0 ∷ 0 ∷ []) (cond test 1 0)) s s' v h in
-      subst (λ v'. Takes test s s' m width v') is.1
-      (subst (λ after. Takes test s after m width (record { width = width; index = count_of s.worker s.program })) is.0 (Takes-emission test s m width a))
+      let is = defined_is word (instr_of op.Input width (0 ∷ 0 ∷ 0 ∷ []) (cond test 1 0)) s s' v h in
+      subst (λ v'. Takes test s s' m width v') is.2
+      (subst (λ after. Takes test s after m width (record { width = width; index = count_of s.worker s.program })) is.1 (Takes-emission test s m width a))
 
   -- the inputs of an array
   inputs-Take : (n : ℕ) (word party : Token) (width : ℕ) (items xs items' : List ℕ) (s s' : State) (m : Moment) → Agree given workers s m → StandFor ((ran given s.program).values m.worker) items xs → inputs n word party width items s ≡ Ok (items', s') → Agree given workers s' (after_taking party n m) × StandFor ((ran given s'.program).values m.worker) items' (xs ++ taken party n m)
@@ -156,7 +160,7 @@ module _ (given : Given) (workers : ℕ) where
   unfolding length_at
   length-Agree s m size n a h =
       let z = then_ok (constant_of size.1 (state.constants_of s)) _ n h in
-      ap unsigned_abs (constant-Agree given workers s m size.1 z.0 a z.1) ∙ (cond_some _ (unsigned_abs z.0) n (or_fault_ok _ size.0 (length_in z.0) n z.2)).1
+      ap unsigned_abs (constant-Agree given workers s m size.1 z.0 a z.1) ∙ size_in-is z.0 n (or_fault_ok _ size.0 (size_in z.0) n z.2)
 
   pub input_of-Agree : (size : Option (Token × ConstExpr)) (word party name : Token) (width : ℕ) (s s' : State) (m : Moment) → Agree given workers s m → input_of size word party name width s ≡ Ok s' → Agree given workers s' (with_input size party name width m)
   unfolding input_of with_input

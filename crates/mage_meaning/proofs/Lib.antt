@@ -1,17 +1,15 @@
-pub mod Agree
-pub mod ConstantLemmas
-pub mod EffectLemmas
-pub mod EmissionLemmas
-pub mod ExpressionLaw
-pub mod InputLemmas
-pub mod MoveLemmas
-pub mod PlaceLemmas
+mod Agree
+mod EffectLemmas
+mod EmissionLemmas
+mod ExpressionLaw
+mod InputLemmas
+mod MoveLemmas
+mod PlaceLemmas
 pub mod ProgramLaw
-pub mod Runs
-pub mod ScopeLemmas
-pub mod Shifts
-pub mod StatementLaw
-pub mod TreeLemmas
-pub mod TurnLemmas
-pub mod WorkerLists
-pub mod WidthLemmas
+mod Runs
+mod ScopeLemmas
+mod StatementLaw
+mod TreeLemmas
+mod TurnLemmas
+mod WorkerLists
+mod Wrapping

@@ -5,24 +5,28 @@ use Rattle.std.proofs.lemmas.Bool.{eqb-true, cases_Bool, cases_eq, cond-true, co
 use Rattle.mage_instr.specs.declared.instr.Instr.{Instr}
 use Rattle.mage_instr.specs.declared.op.Op.TheVariants as op
 use Rattle.mage_lex.specs.declared.token.Token.{Token}
-use Rattle.mage_unroll.specs.declared.state.Emitted.{Emitted}
+use Rattle.mage_linked.specs.declared.emitted.Emitted.{Emitted}
 use Rattle.mage_unroll.specs.declared.state.Variable.{Variable}
-use Rattle.mage_unroll.specs.Unrolled.{below}
+use Rattle.mage_linked.specs.Workers.{below}
 use Rattle.mage_unroll.specs.declared.state.Held.{Held}
 use Rattle.mage_unroll.specs.State as state
-use Rattle.mage_unroll.specs.State.{State, instr_of, defined, emitted, count_of}
+use Rattle.mage_linked.specs.Emission.{count_of}
+use Rattle.mage_unroll.specs.State.{State, instr_of, defined, emitted}
 use Rattle.mage_unroll.specs.Statements.{transferred, moved, named_scalar}
 use Rattle.mage_meaning.specs.declared.known.Known.TheVariants as known
 use Rattle.mage_meaning.specs.declared.known.Wide.{Wide}
-use Rattle.mage_meaning.specs.Given.{Given, with_at}
+use Rattle.mage_linked.specs.Workers.{with_at}
+use Rattle.mage_meaning.specs.Given.{Given}
 use Rattle.mage_meaning.specs.Means.{Running, with_value, after_instr}
 use Rattle.mage_meaning.specs.Value as value
 use Rattle.mage_meaning.specs.Value.{Moment}
-use Rattle.mage_meaning.proofs.Agree.{Stands, Agree, SameNames-Extends, EachBelow-push, Agree-bound}
-use Rattle.mage_meaning.proofs.EmissionLemmas.{after_emission, emitted_is, defined_is, last_value, value_of_variable}
+use Rattle.mage_meaning.proofs.Agree.{Stands, Agree, SameNames-Extends, Agree-bound}
+use Rattle.mage_unroll.proofs.SoundStates.{after_emission, emitted_is, defined_is}
+use Rattle.mage_meaning.proofs.EmissionLemmas.{last_value, value_of_variable}
 use Rattle.mage_meaning.proofs.PlaceLemmas.{HeldFor}
-use Rattle.mage_unroll.proofs.SoundResults.{then_ok, same_Ok}
-use Rattle.mage_meaning.proofs.Runs.{ran, ran-push, with_at-same, with_at-other, Extends, Extends-ran}
+use Rattle.mage_chains.proofs.Ends.{then_ok, same_Ok}
+use Rattle.mage_linked.proofs.WorkerLemmas.{with_at-same, with_at-other}
+use Rattle.mage_meaning.proofs.Runs.{ran, ran-push, Extends, Extends-ran}
 
 -- what one worker sent to another that had nothing to take, and what is left once that one takes it
 abbrev sent_one : (ℕ → ℕ → List ℕ) → (from to x : ℕ) → (ℕ → ℕ → List ℕ)
@@ -110,7 +114,6 @@ module _ (given : Given) (workers : ℕ) where
           count = a.count;
           names = SameNames-Extends given workers p p2 s.scopes m.scopes kept a.names;
           follows = record {
-            each = EachBelow-push workers p1 e2 (EachBelow-push workers p e1 a.follows.each h.0) a.within;
             garbler_left = ap (λ (z : Running). z.garbler) run2 ∙ ap (λ (z : Running). z.garbler) run1 ∙ a.follows.garbler_left;
             evaluator_left = ap (λ (z : Running). z.evaluator) run2 ∙ ap (λ (z : Running). z.evaluator) run1 ∙ a.follows.evaluator_left;
             outputs_so_far = ap (λ (z : Running). map z.outputs (below workers)) run2 ∙ ap (λ (z : Running). map z.outputs (below workers)) run1 ∙ a.follows.outputs_so_far;
@@ -126,9 +129,9 @@ module _ (given : Given) (workers : ℕ) where
 
   far : (word name : Token) (held : Held) (x : Wide) (s s1 s2 : State) (v : Variable) (m : Moment) → Agree given workers s m → HeldFor given workers s held x → emitted word held.worker (send_instr held s.worker) s ≡ Ok s1 → defined word (recv_instr held) s1 ≡ Ok (v, s2) → Agree given workers (state.bound name (named_scalar s.worker v) s2) (value.bound name (known.Number x) m)
   far word name held x s s1 s2 v m a h e1 e2 =
-      let sent = emitted_is given workers word held.worker (send_instr held s.worker) s s1 e1 in
-      let is = defined_is given workers word (recv_instr held) (after_send held s) s2 v (subst (λ y. defined word (recv_instr held) y ≡ Ok (v, s2)) (sym sent) e2) in
-      let moves = subst (λ v'. Moves held x s s2 m v') is.1 (subst (λ y. Moves held x s y m (record { width = held.variable.width; index = count_of s.worker (after_send held s).program })) is.0 (Moves-emissions held x s m a h)) in
+      let sent = (emitted_is word held.worker (send_instr held s.worker) s s1 e1).1 in
+      let is = defined_is word (recv_instr held) (after_send held s) s2 v (subst (λ y. defined word (recv_instr held) y ≡ Ok (v, s2)) (sym sent) e2) in
+      let moves = subst (λ v'. Moves held x s s2 m v') is.2 (subst (λ y. Moves held x s y m (record { width = held.variable.width; index = count_of s.worker (after_send held s).program })) is.1 (Moves-emissions held x s m a h)) in
       Agree-bound given workers s2 m name (named_scalar s.worker v) (known.Number x) moves.agree (a.within, moves.stands)
 
   pub moved-Agree : (word name : Token) (held : Held) (x : Wide) (s s' : State) (m : Moment) → Agree given workers s m → HeldFor given workers s held x → moved word name held s ≡ Ok s' → Agree given workers s' (value.bound name (known.Number x) m)

@@ -1,20 +1,19 @@
 -- What a place stands for is the same on both sides.
-use Rattle.std.proofs.Common.{◌≡◌, ℕ, zero, suc, ◌<◌, eqb, List, [], ◌∷◌, ℤ, Option, Some, None, Ok, refl, sym, ap, ◌∙◌, subst}
+use Rattle.std.proofs.Common.{◌≡◌, ℕ, zero, suc, ◌<◌, length, List, [], ◌∷◌, ℤ, Option, Some, None, Ok, refl, sym, ap, ◌∙◌, subst}
 use Rattle.std.specs.Prelude.{slice_get, slice_index, set, unsigned_abs, unwrap_or}
-use Rattle.std.proofs.lemmas.Bool.{eqb-true}
 use Rattle.mage_lex.specs.declared.token.Token.{Token}
 use Rattle.mage_scopes.specs.Scopes.{found}
-use Rattle.mage_syntax.specs.Words.{bytes_of, width_of_type}
-use Rattle.mage_syntax.specs.declared.tree.ConstExpr.{ConstExpr}
-use Rattle.mage_syntax.specs.declared.tree.Item.{Item}
+use Rattle.mage_tree.specs.Words.{bytes_of, width_of_type}
+use Rattle.mage_tree.specs.declared.tree.ConstExpr.{ConstExpr}
+use Rattle.mage_tree.specs.declared.tree.Item.{Item}
 use Rattle.mage_unroll.specs.declared.state.Array.{Array}
 use Rattle.mage_unroll.specs.declared.state.Named.{Named}
 use Rattle.mage_unroll.specs.declared.state.Named.TheVariants as named
 use Rattle.mage_unroll.specs.declared.state.Scalar.{Scalar}
-use Rattle.mage_unroll.specs.Constants.{constant_of}
+use Rattle.mage_constants.specs.Constants.{constant_of}
 use Rattle.mage_unroll.specs.declared.state.Held.{Held}
 use Rattle.mage_unroll.specs.State as state
-use Rattle.mage_unroll.specs.State.{State, held_scalar, held_item, item_of, place_with, place_of, own_place, position_of, width_at}
+use Rattle.mage_unroll.specs.State.{State, held_scalar, held_item, item_of, place_with, place_of, position_of, width_at}
 use Rattle.mage_meaning.specs.declared.known.Known.{Known}
 use Rattle.mage_meaning.specs.declared.known.Known.TheVariants as known
 use Rattle.mage_meaning.specs.declared.known.Row.{Row}
@@ -23,15 +22,11 @@ use Rattle.mage_meaning.specs.Given.{Given}
 use Rattle.mage_meaning.specs.Value as value
 use Rattle.mage_meaning.specs.Value.{Moment, wide}
 use Rattle.mage_meaning.proofs.Agree.{Stands, StandFor, Same, Agree, same_found, constant-Agree}
-use Rattle.mage_unroll.proofs.SoundResults.{cond_ok, cond_some, then_ok, same_Ok, or_fault_ok}
+use Rattle.mage_chains.proofs.Ends.{none_not_some, same_Some, then_ok, same_Ok}
+use Rattle.mage_constants.proofs.RangeLemmas.{number_below-is}
+use Rattle.mage_constants.proofs.Trees.{or_fault_ok}
 use Rattle.mage_meaning.proofs.Runs.{ran}
 use Rattle.mage_meaning.proofs.ScopeLemmas.{Both}
-
-none_not_some : {A : Type 0} (x : A) → ◌≡◌ {A = Option A} None (Some x) → ⊥
-none_not_some x h = cc
-
-same_Some : {A : Type 0} (x y : A) → ◌≡◌ {A = Option A} (Some x) (Some y) → x ≡ y
-same_Some x y h = cc
 
 -- ---- lists of variables
 
@@ -83,7 +78,7 @@ module _ (given : Given) (workers : ℕ) where
   -- the numbers that an index has on both sides
   pub same_position : (s : State) (m : Moment) (index : ConstExpr) (z : ℤ) (array : Array) (p : ℕ) → Agree given workers s m → constant_of index (state.constants_of s) ≡ Ok z → position_of z array ≡ Some p → value.number_in index m ≡ p
   same_position s m index z array p a h e =
-      ap unsigned_abs (constant-Agree given workers s m index z a h) ∙ (cond_some _ (unsigned_abs z) p e).1
+      ap unsigned_abs (constant-Agree given workers s m index z a h) ∙ (number_below-is (length array.items) z p e).0
 
   pub item-Held : (s : State) (m : Moment) (name : Token) (index : ConstExpr) (array : Array) (row : Row) (held : Held) → Agree given workers s m → Same workers (ran given s.program).values (named.Array array) (known.Array row) → item_of name index array s ≡ Ok held → (held.worker ≡ array.worker) × (held.variable.width ≡ array.width) × (held.position ≡ Some (value.number_in index m)) × HeldFor s held (wide row.width (slice_index row.values (value.number_in index m)))
   unfolding item_of
@@ -110,14 +105,6 @@ module _ (given : Given) (workers : ℕ) where
 
   pub place_of-Held : (s : State) (m : Moment) (item : Item) (held : Held) → Agree given workers s m → place_of item s ≡ Ok held → HeldFor s held (value.item_at item m)
   place_of-Held s m item held a h = place_with-Held s m item.name item.index held a h
-
--- a place on the current worker
-pub own_place-is : (s : State) (item : Item) (held : Held) → own_place item s ≡ Ok held → (place_of item s ≡ Ok held) × (held.worker ≡ s.worker)
-unfolding own_place
-own_place-is s item held h =
-    let x = then_ok (place_of item s) _ held h in
-    let c = cond_ok (eqb x.0.worker s.worker) x.0 held _ x.2 in
-    subst (λ (y : Held). (place_of item s ≡ Ok y) × (y.worker ≡ s.worker)) c.1 (x.1, eqb-true x.0.worker s.worker c.0)
 
 -- the width of a type word
 pub width_at-is : (ty : Token) (width : ℕ) → width_at ty ≡ Ok width → value.width_or_one ty ≡ width

@@ -1,32 +1,18 @@
 -- The run of emitted instructions, one after the other. It only adds to the values of the workers.
 use Rattle.std.proofs.Common.{◌≡◌, ℕ, zero, suc, ◌+◌, Bool, true, false, cond, eqb, List, [], ◌∷◌, ◌++◌, length, Some, refl, sym, ap, ◌∙◌, subst, ⊎_elim, arith}
-use Rattle.std.proofs.Math.Path.{fun_ext}
 use Rattle.std.specs.Prelude.{slice_get}
 use Rattle.std.specs.List.{filter}
 use Rattle.std.proofs.lemmas.Bool.{cases_eq, cond-true, cond-false, eq-eqb, ne_eqb}
 use Rattle.std.proofs.lemmas.List.{length-append}
+use Rattle.mage_linked.proofs.WorkerLemmas.{with_at-same, with_at-other}
 use Rattle.mage_instr.specs.declared.instr.Instr.{Instr}
 use Rattle.mage_instr.specs.declared.op.Op.{Op}
 use Rattle.mage_instr.specs.declared.op.Op.TheVariants as op
-use Rattle.mage_unroll.specs.declared.state.Emitted.{Emitted}
-use Rattle.mage_unroll.specs.State.{count_of}
-use Rattle.mage_meaning.specs.Given.{Given, with_at}
+use Rattle.mage_linked.specs.declared.emitted.Emitted.{Emitted}
+use Rattle.mage_linked.specs.Emission.{count_of}
+use Rattle.mage_linked.specs.Workers.{with_at}
+use Rattle.mage_meaning.specs.Given.{Given}
 use Rattle.mage_meaning.specs.Means.{Running, acted, after_instr, run_all, start}
-
--- ---- functions of the worker
-
-pub with_at-same : {A : Type 0} (f : ℕ → A) (worker : ℕ) (x : A) → with_at f worker x worker ≡ x
-with_at-same f worker x = cond-true (eqb worker worker) x (f worker) (eq-eqb worker worker refl)
-
-pub with_at-other : {A : Type 0} (f : ℕ → A) (worker : ℕ) (x : A) (other : ℕ) → (other ≡ worker → ⊥) → with_at f worker x other ≡ f other
-with_at-other f worker x other h = cond-false (eqb other worker) x (f other) (ne_eqb other worker h)
-
-cond_twice : {A : Type 0} (test : Bool) (x y z : A) → cond test y (cond test x z) ≡ cond test y z
-cond_twice true x y z = refl
-cond_twice false x y z = refl
-
-pub with_at-twice : {A : Type 0} (f : ℕ → A) (worker : ℕ) (x y : A) → with_at (with_at f worker x) worker y ≡ with_at f worker y
-with_at-twice f worker x y = fun_ext (λ other. cond_twice (eqb other worker) x y (f other))
 
 -- ---- runs
 
@@ -55,7 +41,25 @@ acted-Adds op.Input worker i r = cond-Adds (eqb i.imm 0) worker r _ _ (_, refl) 
 acted-Adds op.Output worker i r = (_, refl)
 acted-Adds op.Send worker i r = (_, refl)
 acted-Adds op.Recv worker i r = (_, refl)
-acted-Adds _ worker i r = (_, refl)
+acted-Adds op.Const worker i r = (_, refl)
+acted-Adds op.Add worker i r = (_, refl)
+acted-Adds op.Sub worker i r = (_, refl)
+acted-Adds op.Mul worker i r = (_, refl)
+acted-Adds op.And worker i r = (_, refl)
+acted-Adds op.Or worker i r = (_, refl)
+acted-Adds op.Xor worker i r = (_, refl)
+acted-Adds op.Not worker i r = (_, refl)
+acted-Adds op.Eq worker i r = (_, refl)
+acted-Adds op.Lt worker i r = (_, refl)
+acted-Adds op.Mux worker i r = (_, refl)
+acted-Adds op.Shl worker i r = (_, refl)
+acted-Adds op.Shr worker i r = (_, refl)
+acted-Adds op.Resize worker i r = (_, refl)
+acted-Adds op.Div worker i r = (_, refl)
+acted-Adds op.Rem worker i r = (_, refl)
+acted-Adds op.Count worker i r = (_, refl)
+acted-Adds op.Min worker i r = (_, refl)
+acted-Adds op.Max worker i r = (_, refl)
 
 after_instr-Adds : (worker : ℕ) (i : Instr) (r : Running) → Adds worker r (after_instr worker i r)
 unfolding after_instr

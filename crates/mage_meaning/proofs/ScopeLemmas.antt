@@ -1,4 +1,5 @@
--- Scopes of two sides, at each name of which related values stand: each operation keeps the relation.
+-- Scopes of two sides, at each name of which related values stand: each operation keeps the
+-- relation.
 use Rattle.std.proofs.Common.{◌≡◌, ℕ, Bool, true, false, cond, List, [], ◌∷◌, Option, Some, None, refl, subst}
 use Rattle.std.specs.Prelude.{is_some}
 use Rattle.std.specs.Option.{option_or}

@@ -6,68 +6,53 @@ use Rattle.mage_instr.specs.declared.op.Op.TheVariants as op
 use Rattle.mage_lex.specs.declared.fault.LangFault.{LangFault}
 use Rattle.mage_lex.specs.declared.token.Token.{Token}
 use Rattle.mage_scopes.specs.Scopes.{Meaning, found, replaced, entered, left}
-use Rattle.mage_syntax.specs.Words.{bytes_of}
-use Rattle.mage_syntax.specs.declared.tree.ConstExpr.{ConstExpr}
-use Rattle.mage_syntax.specs.declared.tree.Stmt.{Stmt, map-Stmt, roll-Stmt}
-use Rattle.mage_syntax.specs.declared.tree.Stmt.TheOpen.{Stmt-F}
-use Rattle.mage_syntax.specs.declared.tree.Stmt.TheFolds.{fold-roll-Stmt, ind-Stmt}
+use Rattle.mage_tree.specs.Words.{bytes_of}
+use Rattle.mage_tree.specs.declared.tree.ConstExpr.{ConstExpr}
+use Rattle.mage_tree.specs.declared.tree.Stmt.{Stmt, map-Stmt, roll-Stmt}
+use Rattle.mage_tree.specs.declared.tree.Stmt.TheOpen.{Stmt-F}
+use Rattle.mage_tree.specs.declared.tree.Stmt.TheFolds.{fold-roll-Stmt, ind-Stmt}
 use Rattle.mage_unroll.specs.declared.state.Array.{Array}
-use Rattle.mage_unroll.specs.declared.state.Emitted.{Emitted}
+use Rattle.mage_linked.specs.declared.emitted.Emitted.{Emitted}
 use Rattle.mage_unroll.specs.declared.state.Named.{Named}
 use Rattle.mage_unroll.specs.declared.state.Named.TheVariants as named
 use Rattle.mage_unroll.specs.declared.state.Scalar.{Scalar}
 use Rattle.mage_unroll.specs.declared.state.Variable.{Variable}
-use Rattle.mage_unroll.specs.Constants.{constant_of}
+use Rattle.mage_constants.specs.Constants.{constant_of}
 use Rattle.mage_unroll.specs.Expressions.{variable_of}
 use Rattle.mage_unroll.specs.declared.state.Held.{Held}
 use Rattle.mage_unroll.specs.State as state
 use Rattle.mage_unroll.specs.State.{State, held_scalar, place_with, instr_of, stepped, stepped_by, emitted, is_free, own_place, place_of, width_at, is_as_wide}
 use Rattle.mage_unroll.specs.Statements as unroll
-use Rattle.mage_unroll.specs.Unrolled.{below}
-use Rattle.mage_unroll.specs.Statements.{condition, turn, Act, all_acts, in_scope, length_at, named_scalar, named_array, input_of, moved, worker_in, turns, branch, holds, distance, stmt_layer, executed}
+use Rattle.mage_linked.specs.Workers.{below}
+use Rattle.mage_constants.specs.Ranges.{number_below, holds, distance}
+use Rattle.mage_unroll.specs.Statements.{condition, turn, Act, all_acts, in_scope, length_at, named_scalar, named_array, input_of, moved, turns, branch, stmt_layer, executed}
 use Rattle.mage_meaning.specs.declared.known.Known.{Known}
 use Rattle.mage_meaning.specs.declared.known.Known.TheVariants as known
 use Rattle.mage_meaning.specs.declared.known.Wide.{Wide}
-use Rattle.mage_meaning.specs.Given.{Given, with_at}
+use Rattle.mage_linked.specs.Workers.{with_at}
+use Rattle.mage_meaning.specs.Given.{Given}
 use Rattle.mage_meaning.specs.Means.{Running, with_value, after_instr}
 use Rattle.mage_meaning.specs.Value as value
 use Rattle.mage_meaning.specs.Value.{Moment, Change, all_changes, number_of_expr, change_layer, change_of}
-use Rattle.mage_meaning.proofs.Agree.{Stands, StandFor, Same, Same-Extends, same_found, Agree, SameNames-Extends, EachBelow-push, stepped-is, Agree-scopes, Agree-steps, Agree-bound, Agree-stepped, constant-Agree}
-use Rattle.mage_meaning.proofs.EmissionLemmas.{Evaluates, after_emission, emitted_is, value_of_variable}
+use Rattle.mage_meaning.proofs.Agree.{Stands, StandFor, Same, Same-Extends, same_found, Agree, SameNames-Extends, stepped-is, Agree-scopes, Agree-steps, Agree-bound, Agree-stepped, constant-Agree}
+use Rattle.mage_unroll.proofs.SoundPlaces.{scalar-found, array-found, own_place-is}
+use Rattle.mage_unroll.proofs.SoundStates.{after_emission, emitted_is}
+use Rattle.mage_meaning.proofs.EmissionLemmas.{Evaluates, value_of_variable}
 use Rattle.mage_meaning.proofs.ExpressionLaw.{variable_of-Law}
 use Rattle.mage_meaning.proofs.InputLemmas.{length-Agree, input_of-Agree}
 use Rattle.mage_meaning.proofs.MoveLemmas.{moved-Agree}
-use Rattle.mage_meaning.proofs.PlaceLemmas.{StandFor-set, array-Both, item-Held, place_of-Held, own_place-is, width_at-is}
-use Rattle.mage_unroll.proofs.SoundResults.{below_from_test, cond_ok, cond_some, then_ok, same_Ok, or_fault_ok}
+use Rattle.mage_meaning.proofs.PlaceLemmas.{StandFor-set, array-Both, item-Held, place_of-Held, width_at-is}
+use Rattle.mage_chains.proofs.Ends.{cond_ok, cond_some, then_ok, same_Ok}
+use Rattle.mage_constants.proofs.Trees.{or_fault_ok}
+use Rattle.mage_constants.proofs.RangeLemmas.{number_below-is}
 use Rattle.mage_meaning.proofs.Runs.{ran, ran-push, Extends-ran}
 use Rattle.mage_meaning.proofs.ScopeLemmas.{replaced-Same, entered-Same, left-Same}
-use Rattle.mage_meaning.proofs.WorkerLists.{list_at-map, map-with_at}
-
--- a worker that was chosen is one of them
-worker_in-below : (workers : ℕ) (z : ℤ) (w : ℕ) → worker_in workers z ≡ Some w → (unsigned_abs z ≡ w) × (w < workers)
-worker_in-below workers z w h =
-    let c = cond_some (int_le (pos 0) z && int_lt z (pos workers)) (unsigned_abs z) w h in
-    let both = and_parts (int_le (pos 0) z) (int_lt z (pos workers)) c.0 in
-    (c.1, subst (λ n. n < workers) c.1 (below_from_test workers z both.0 both.1))
+use Rattle.mage_linked.proofs.WorkerLemmas.{list_at-map}
+use Rattle.mage_meaning.proofs.WorkerLists.{map-with_at}
 
 StandFor-replicate : (values : List ℕ) (n i x : ℕ) → slice_get values i ≡ Some x → StandFor values (replicate n i) (replicate n x)
 StandFor-replicate values zero i x h = tt
 StandFor-replicate values (suc n) i x h = (h, StandFor-replicate values n i x h)
-
-none_not_some : {A : Type 0} (x : A) → ◌≡◌ {A = Option A} None (Some x) → ⊥
-none_not_some x h = cc
-
-scalar-found : (o : Option Named) (scalar : Scalar) → state.as_scalar o ≡ Some scalar → o ≡ Some (named.Scalar scalar)
-scalar-found (Some (named.Scalar other)) scalar h = ap (λ x. option_map named.Scalar x) h
-scalar-found (Some (named.Constant z)) scalar h = absurd (none_not_some scalar h)
-scalar-found (Some (named.Array array)) scalar h = absurd (none_not_some scalar h)
-scalar-found None scalar h = absurd (none_not_some scalar h)
-
-array-found : (o : Option Named) (array : Array) → state.as_array o ≡ Some array → o ≡ Some (named.Array array)
-array-found (Some (named.Array other)) array h = ap (λ x. option_map named.Array x) h
-array-found (Some (named.Constant z)) array h = absurd (none_not_some array h)
-array-found (Some (named.Scalar scalar)) array h = absurd (none_not_some array h)
-array-found None array h = absurd (none_not_some array h)
 
 module _ (given : Given) (workers : ℕ) where
   -- what an act comes to agrees with the change
@@ -101,7 +86,6 @@ module _ (given : Given) (workers : ℕ) where
         count = a.count;
         names = SameNames-Extends given workers p (p ++ e ∷ []) s.scopes m.scopes (Extends-ran given p e) a.names;
         follows = record {
-          each = EachBelow-push workers p e a.follows.each below_all;
           garbler_left = ap (λ (z : Running). z.garbler) run ∙ a.follows.garbler_left;
           evaluator_left = ap (λ (z : Running). z.evaluator) run ∙ a.follows.evaluator_left;
           outputs_so_far = ap (λ (z : Running). map z.outputs (below workers)) run ∙ outputs;
@@ -283,7 +267,7 @@ module _ (given : Given) (workers : ℕ) where
         let w = then_ok _ _ s' z.2 in
         let after = then_ok (all_acts (map f (map base body)) (record b.0 { worker = w.0 })) _ s' w.2 in
         let a1 = Agree-stepped given workers 1 word s b.0 m a b.1 in
-        let chosen = worker_in-below b.0.workers z.0 w.0 (or_fault_ok _ (unroll.first_token worker) (worker_in b.0.workers z.0) w.0 w.1) in
+        let chosen = number_below-is b.0.workers z.0 w.0 (or_fault_ok _ (unroll.first_token worker) (number_below b.0.workers z.0) w.0 w.1) in
         let same = ap unsigned_abs (constant-Agree given workers b.0 m worker z.0 a1 z.1) ∙ chosen.0 in
         let moment = record m { worker = value.number_in worker m } in
         let there : Agree given workers (record b.0 { worker = w.0 }) moment =
@@ -310,7 +294,7 @@ module _ (given : Given) (workers : ℕ) where
         let a1 = Agree-stepped given workers 1 word s b.0 m a b.1 in
         let k = variable_of-Law given workers e word b.0 v.0.1 m v.0.0 a1 v.1 in
         subst (λ y. Agree given workers y (record m { outputs = value.with_output m.outputs m.worker (number_of_expr e m).value }))
-        (emitted_is given workers word b.0.worker (instr_of op.Output v.0.0.width (v.0.0.index ∷ 0 ∷ 0 ∷ []) 0) v.0.1 s' v.2)
+        ((emitted_is word b.0.worker (instr_of op.Output v.0.0.width (v.0.0.index ∷ 0 ∷ 0 ∷ []) 0) v.0.1 s' v.2).1)
         (Agree-output v.0.1 m b.0.worker v.0.0 (number_of_expr e m) k.agree a1.worker a1.within k.stands)
 
   roll-Law : (Y : Type 0) (base : Y → Stmt) (law : (t : Y) → StmtLaw (executed (base t)) (change_of (base t))) (e : Stmt-F Y) → StmtLaw (executed (roll-Stmt (map-Stmt Y Stmt base e))) (change_of (roll-Stmt (map-Stmt Y Stmt base e)))

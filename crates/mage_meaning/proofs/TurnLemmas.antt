@@ -3,7 +3,7 @@ use Rattle.std.proofs.Common.{◌≡◌, suc, ℤ, pos, sym, ap, ◌∙◌, arit
 use Rattle.std.specs.Prelude.{◌+ℤ◌, int_lt, true}
 use Rattle.std.proofs.lemmas.Int.{ints}
 use Rattle.mage_lex.specs.declared.token.Token.{Token}
-use Rattle.mage_unroll.specs.Statements.{distance}
+use Rattle.mage_constants.specs.Ranges.{distance}
 use Rattle.mage_meaning.specs.declared.known.Known.TheVariants as known
 use Rattle.mage_meaning.specs.Value.{Moment, Change, bound, in_scope, turns}
 

@@ -2,41 +2,11 @@
 use Rattle.std.proofs.Common.{◌≡◌, ℕ, zero, suc, ◌+◌, ◌<◌, ◌≤◌, List, [], ◌∷◌, ◌++◌, map, drop, set, length, refl, sym, ap, ◌∙◌, subst, ⊎_elim, arith}
 use Rattle.std.proofs.Math.Path.{fun_ext}
 use Rattle.std.proofs.lemmas.Bool.{cases_lt, cases_eq}
-use Rattle.std.proofs.lemmas.List.{map-append, length-map, length_push, set-set, set-append_left, set_at}
-use Rattle.mage_unroll.specs.Unrolled.{below}
-use Rattle.mage_meaning.specs.Given.{list_at, with_at}
+use Rattle.std.proofs.lemmas.List.{map-append, set-set, set-append_left, set_at}
+use Rattle.mage_linked.specs.Workers.{below}
+use Rattle.mage_linked.specs.Workers.{list_at, with_at}
 use Rattle.mage_meaning.specs.Value.{without_first}
-use Rattle.mage_meaning.proofs.Runs.{with_at-same, with_at-other}
-
--- ---- the numbers of the workers
-
-pub length-below : (n : ℕ) → length (below n) ≡ n
-length-below zero = refl
-length-below (suc n) = length_push (below n) n ∙ ap (λ k. k + 1) (length-below n) ∙ omega arith
-
-list_at-append : {A : Type 0} (xs ys : List (List A)) (w : ℕ) → w < length xs → list_at (xs ++ ys) w ≡ list_at xs w
-list_at-append [] ys w h = absurd (omega arith)
-list_at-append (x ∷ xs) ys zero h = refl
-list_at-append (x ∷ xs) ys (suc w) h = list_at-append xs ys w (omega arith)
-
-list_at-last : {A : Type 0} (xs : List (List A)) (y : List A) → list_at (xs ++ y ∷ []) (length xs) ≡ y
-list_at-last [] y = refl
-list_at-last (x ∷ xs) y = list_at-last xs y
-
-pub list_at-map : {A : Type 0} (f : ℕ → List A) (n w : ℕ) → w < n → list_at (map f (below n)) w ≡ f w
-list_at-map f zero w h = absurd (omega arith)
-list_at-map f (suc n) w h = ap (λ l. list_at l w) (map-append f (below n) (n ∷ [])) ∙ ⊎_elim (λ k. before (list_at-map f n w k) k) last (cases_lt w n)
-  where
-    size : length (map f (below n)) ≡ n
-    size = length-map (below n) f ∙ length-below n
-
-    before : list_at (map f (below n)) w ≡ f w → w < n → list_at (map f (below n) ++ f n ∷ []) w ≡ f w
-    before e k = list_at-append (map f (below n)) (f n ∷ []) w (omega (arith, size)) ∙ e
-
-    last : n ≤ w → list_at (map f (below n) ++ f n ∷ []) w ≡ f w
-    last k =
-        let e : w ≡ n = omega arith in
-        ap (λ i. list_at (map f (below n) ++ f n ∷ []) i) (e ∙ sym size) ∙ list_at-last (map f (below n)) (f n) ∙ ap f (sym e)
+use Rattle.mage_linked.proofs.WorkerLemmas.{with_at-same, with_at-other, length-map_below}
 
 -- an entry of a list of all workers is set
 map-beyond : (f : ℕ → List ℕ) (w : ℕ) (x : List ℕ) (n : ℕ) → n ≤ w → map (with_at f w x) (below n) ≡ map f (below n)
@@ -50,7 +20,7 @@ map-with_at f w x zero h = absurd (omega arith)
 map-with_at f w x (suc n) h = map-append (with_at f w x) (below n) (n ∷ []) ∙ ⊎_elim (λ k. before (map-with_at f w x n k) k) last (cases_lt w n) ∙ ap (λ l. set l w x) (sym (map-append f (below n) (n ∷ [])))
   where
     size : length (map f (below n)) ≡ n
-    size = length-map (below n) f ∙ length-below n
+    size = length-map_below f n
 
     before : map (with_at f w x) (below n) ≡ set (map f (below n)) w x → w < n → map (with_at f w x) (below n) ++ with_at f w x n ∷ [] ≡ set (map f (below n) ++ f n ∷ []) w x
     before e k =

@@ -3,4 +3,3 @@ pub mod Laws
 pub mod Means
 pub mod Run
 pub mod Value
-pub mod Widths

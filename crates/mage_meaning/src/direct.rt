@@ -12,16 +12,17 @@ ghost use Rattle.mage_meaning.specs.Value.{worker_count, opening, value_of};
 use crate::Inputs;
 use crate::run::Run;
 use crate::statements::{execute_all, size_of_list};
-use crate::tokens::number_of;
 use mage_base::Memory;
+use mage_constants::number_of;
 use mage_lex::Token;
 use mage_scopes::Scopes;
-use mage_syntax::Source;
+use mage_tree::Source;
 use std::alloc::Global;
 
 // The lists as slices, from which values can be taken.
-fn slices(alloc: Global, lists: &[Vec<u64>]) -> Result<Vec<&[u64]>, Memory>
-    ensures { IfOk result (λ slices. map (λ own. own.now) slices.items ≡ map (λ own. own.items) lists.now) }
+fn slices(alloc: Global, lists: &[Vec<u128>]) -> Result<Vec<&[u128]>, Memory>
+    ensures { IfOk result
+        (λ slices. map (λ own. own.now) slices.items ≡ map (λ own. own.items) lists.now) }
 {
     let mut slices = Vec::with_capacity(alloc, lists.len())?;
     for own in lists {
@@ -41,7 +42,7 @@ fn worker_count(workers: Option<&Token>) -> u128
 }
 
 // An empty list for each worker.
-fn no_outputs(alloc: Global, workers: u128) -> Result<Vec<Vec<u64>>, Memory>
+fn no_outputs(alloc: Global, workers: u128) -> Result<Vec<Vec<u128>>, Memory>
     ensures { IfOk result (λ outputs. map (λ own. own.items) outputs.items ≡ replicate workers []) }
 {
     let workers = size_of_list(workers)?;
@@ -66,12 +67,13 @@ fn opening<'a>(alloc: Global, workers: u128, inputs: &'a Inputs) -> Result<Run<'
     })
 }
 
-/// Each worker's outputs, in order, by the direct meaning of the source (`value`). The program that a source without
-/// a fault unrolls to means just these outputs (`same`). Where a source has a fault, each step that has none of the
-/// things that it wants goes on with 0; an input value that isn't given counts as 0, and one that is wider than its
-/// type is taken as it is. `Memory` is the only other answer.
+/// Each worker's outputs, in order, by the direct meaning of the source (`value`). The program that
+/// a source without a fault unrolls to means just these outputs (`same`). Where a source has a
+/// fault, each step that has none of the things that it wants goes on with 0; an input value that
+/// isn't given counts as 0, and one that is wider than its type is taken as it is. `Memory` is the
+/// only other answer.
 #[tactic(auto, unfolding(crate::specs::Run::moment_of, crate::specs::Value::value_of))]
-pub fn oracle(alloc: Global, source: &Source, inputs: &Inputs) -> Result<Vec<Vec<u64>>, Memory>
+pub fn oracle(alloc: Global, source: &Source, inputs: &Inputs) -> Result<Vec<Vec<u128>>, Memory>
     ensures value { IfOk result (λ outputs. map (λ own. own.items) outputs.items
         ≡ value_of source.now.workers source.now.body inputs.now) }
     ensures same { IfOk result (λ outputs. (program : Program) →

@@ -3,21 +3,21 @@
 
 ghost use Rattle.std.specs.Prelude.{◌≡◌, map, drop, set, IfOk, OnOk};
 ghost use Rattle.mage_scopes.specs.Scopes.{scopes_of, replaced, found};
-ghost use Rattle.mage_meaning.specs.Given.{list_at};
+ghost use Rattle.mage_linked.specs.Workers.{list_at};
 ghost use Rattle.mage_meaning.specs.Run.{moment_of};
 ghost use Rattle.mage_meaning.specs.Value.{bound, as_row, first_of, without_first, taken, after_taking, with_output, assigned};
 ghost use Rattle.mage_meaning.specs.declared.known.Known.TheVariants as known;
 
 use crate::constants::number_in;
 use crate::known::{Known, Row, Wide};
+use crate::parties::is_evaluator;
 use crate::places::entry;
 use crate::run::Run;
-use crate::tokens::is_evaluator;
 use crate::width::Width;
 use mage_base::Memory;
 use mage_lex::Token;
 use mage_scopes::Scopes;
-use mage_syntax::{ConstExpr, bytes_of};
+use mage_tree::{ConstExpr, bytes_of};
 use sqlite_items::Items;
 use std::alloc::Global;
 
@@ -31,7 +31,7 @@ pub fn bind<'a>(run: &mut Run<'a>, name: &'a Token, value: Known) -> Result<(), 
 // ---- inputs
 
 // The values of a worker, of whom there may be none.
-fn list_at<'a>(lists: &[&'a [u64]], worker: u128) -> &'a [u64]
+fn list_at<'a>(lists: &[&'a [u128]], worker: u128) -> &'a [u128]
     ensures { result.now ≡ list_at (map (λ own. own.now) lists.now) worker }
 {
     if worker < lists.len() as u128 {
@@ -42,15 +42,16 @@ fn list_at<'a>(lists: &[&'a [u64]], worker: u128) -> &'a [u64]
 }
 
 // The values without the first so many.
-fn without(values: &[u64], count: usize) -> &[u64]
+fn without(values: &[u128], count: usize) -> &[u128]
     ensures { result.now ≡ drop count values.now }
 {
     values.get(count..).unwrap_or(&[])
 }
 
 // A worker's list loses its first values.
-fn take_first(lists: &mut Vec<&[u64]>, worker: u128, count: usize)
-    ensures { map (λ own. own.now) lists.new.items ≡ without_first count worker (map (λ own. own.now) lists.old.items) }
+fn take_first(lists: &mut Vec<&[u128]>, worker: u128, count: usize)
+    ensures { map (λ own. own.now) lists.new.items
+        ≡ without_first count worker (map (λ own. own.now) lists.old.items) }
 {
     if worker < lists.len() as u128 {
         let worker = worker as usize;
@@ -59,7 +60,7 @@ fn take_first(lists: &mut Vec<&[u64]>, worker: u128, count: usize)
 }
 
 // The first so many values, with 0 for each that isn't there.
-fn first_of(alloc: Global, values: &[u64], count: usize) -> Result<Items<u64>, Memory>
+fn first_of(alloc: Global, values: &[u128], count: usize) -> Result<Items<u128>, Memory>
     ensures { IfOk result (λ items. items ≡ first_of count values.now) }
 {
     let mut items = Vec::with_capacity(alloc, count)?;
@@ -70,9 +71,10 @@ fn first_of(alloc: Global, values: &[u64], count: usize) -> Result<Items<u64>, M
 }
 
 /// Takes the current worker's next so many values of a party.
-pub fn take(run: &mut Run<'_>, party: &Token, count: usize) -> Result<Items<u64>, Memory>
+pub fn take(run: &mut Run<'_>, party: &Token, count: usize) -> Result<Items<u128>, Memory>
     ensures items { IfOk result (λ items. items ≡ taken party.now count (moment_of run.old)) }
-    ensures after { OnOk result (moment_of run.new ≡ after_taking party.now count (moment_of run.old)) }
+    ensures after { OnOk result (moment_of run.new
+        ≡ after_taking party.now count (moment_of run.old)) }
 {
     if is_evaluator(party) {
         let own = list_at(run.evaluator.as_slice(), run.worker);
@@ -90,7 +92,7 @@ pub fn take(run: &mut Run<'_>, party: &Token, count: usize) -> Result<Items<u64>
 // ---- outputs
 
 // One output more of a worker.
-fn add_output(outputs: &mut Vec<Vec<u64>>, worker: u128, value: u64) -> Result<(), Memory>
+fn add_output(outputs: &mut Vec<Vec<u128>>, worker: u128, value: u128) -> Result<(), Memory>
     ensures { OnOk result (map (λ own. own.items) outputs.new.items
         ≡ with_output (map (λ own. own.items) outputs.old.items) worker value) }
 {
@@ -101,7 +103,7 @@ fn add_output(outputs: &mut Vec<Vec<u64>>, worker: u128, value: u64) -> Result<(
 }
 
 /// One output more of the current worker.
-pub fn give_out(run: &mut Run<'_>, value: u64) -> Result<(), Memory>
+pub fn give_out(run: &mut Run<'_>, value: u128) -> Result<(), Memory>
     ensures { OnOk result (moment_of run.new ≡ record (moment_of run.old) {
       outputs = with_output (moment_of run.old).outputs (moment_of run.old).worker value;
     }) }
@@ -112,7 +114,7 @@ pub fn give_out(run: &mut Run<'_>, value: u64) -> Result<(), Memory>
 // ---- assignments
 
 // The row with another value at a place, if it has that place.
-fn set_entry(row: Row, position: u128, value: u64) -> Row
+fn set_entry(row: Row, position: u128, value: u128) -> Row
     ensures { result ≡ record row { values = set row.values position value } }
 {
     let mut row = row;
@@ -125,7 +127,7 @@ fn set_entry(row: Row, position: u128, value: u64) -> Row
 }
 
 // Puts a value into an item of the array that the name stands for.
-fn set_item(names: &mut Scopes<'_, Known>, alloc: Global, name: &[u8], position: u128, value: u64)
+fn set_item(names: &mut Scopes<'_, Known>, alloc: Global, name: &[u8], position: u128, value: u128)
     ensures { scopes_of names.new ≡ replaced (scopes_of names.old) name.now (known.Array
         (record (as_row (found (scopes_of names.old) name.now)) {
           values = set (as_row (found (scopes_of names.old) name.now)).values position value;

@@ -2,16 +2,16 @@
 ghost use Rattle.std.specs.Prelude.{◌≡◌, map};
 ghost use Rattle.mage_bits.specs.Modular.{resize_mod};
 ghost use Rattle.mage_meaning.specs.Run.{moment_of};
-ghost use Rattle.mage_meaning.specs.Value.{wide, width_or_one, number_in, chained, all_shifted, chosen, number_of_expr};
+ghost use Rattle.mage_meaning.specs.Value.{wide, width_or_one, number_in, chained, all_shifted, chosen, called, number_of_expr};
 
-use crate::arithmetic::{combined, inverted, resized, shifted, wide};
+use crate::arithmetic::{call_of_one, call_of_two, combined, inverted, resized, shifted, wide};
 use crate::constants::number_in;
 use crate::known::Wide;
 use crate::places::item_at;
 use crate::run::Run;
 use crate::width::{Width, width_or_one};
 use mage_lex::Token;
-use mage_syntax::{ConstExpr, Expr};
+use mage_tree::{ConstExpr, Expr, bytes_of, callable_of};
 
 // The number of a literal.
 fn literal(run: &Run<'_>, ty: &Token, value: &ConstExpr) -> Wide
@@ -54,13 +54,15 @@ pub fn number_of_expr(run: &Run<'_>, value: &Expr) -> Wide
         Expr::Lit { ty, value, .. } => literal(run, ty, value),
         Expr::Resize { ty, of, .. } => resized(width_or_one(ty), number_of_expr(run, of.get())),
         Expr::Mux { args, .. } => chosen(run, args.as_slice()),
+        Expr::Call { word, args } => called(run, word, args.as_slice()),
     }
 }
 
 // A chain from the left.
 #[cycle(expressions)]
 fn chained(run: &Run<'_>, first: Wide, rest: &[(Token, Expr)]) -> Wide
-    ensures { result ≡ chained (map (λ term. (term.0, number_of_expr term.1)) rest.now) first (moment_of run.now) }
+    ensures { result ≡ chained (map (λ term. (term.0, number_of_expr term.1)) rest.now) first
+        (moment_of run.now) }
 {
     let mut so_far = first;
     for term in rest {
@@ -73,7 +75,8 @@ fn chained(run: &Run<'_>, first: Wide, rest: &[(Token, Expr)]) -> Wide
 // The second number where the first is 1, else the third.
 #[cycle(expressions)]
 fn chosen(run: &Run<'_>, args: &[Expr]) -> Wide
-    ensures { result ≡ chosen (map (λ number. number (moment_of run.now)) (map number_of_expr args.now)) }
+    ensures { result
+        ≡ chosen (map (λ number. number (moment_of run.now)) (map number_of_expr args.now)) }
 {
     match args {
         [condition, a, b] => {
@@ -83,6 +86,21 @@ fn chosen(run: &Run<'_>, args: &[Expr]) -> Wide
                 number_of_expr(run, b)
             }
         }
+        _ => wide(Width::new(1), 0),
+    }
+}
+
+// A call on the numbers of its operands.
+#[cycle(expressions)]
+#[tactic(auto, unfolding(crate::specs::Value::called))]
+fn called(run: &Run<'_>, word: &Token, args: &[Expr]) -> Wide
+    ensures { result ≡ called word.now
+        (map (λ number. number (moment_of run.now)) (map number_of_expr args.now)) }
+{
+    let call = callable_of(bytes_of(word));
+    match args {
+        [a] => call_of_one(call, number_of_expr(run, a)),
+        [a, b] => call_of_two(call, number_of_expr(run, a), number_of_expr(run, b)),
         _ => wide(Width::new(1), 0),
     }
 }

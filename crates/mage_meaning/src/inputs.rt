@@ -3,8 +3,8 @@ use std::marker::Model;
 /// The input values of both parties: a list for each worker, in program order.
 #[derive(Debug, Drop)]
 pub struct Inputs {
-    pub garbler: Vec<Vec<u64>>,
-    pub evaluator: Vec<Vec<u64>>,
+    pub garbler: Vec<Vec<u128>>,
+    pub evaluator: Vec<Vec<u128>>,
 }
 
 impl Model for Inputs {
@@ -13,5 +13,8 @@ impl Model for Inputs {
 
     ghost Value = { Given };
 
-    ghost view = { λ i. record { garbler = map (λ v. v.items) i.garbler.items; evaluator = map (λ v. v.items) i.evaluator.items } };
+    ghost view = { λ i. record {
+      garbler = map (λ v. v.items) i.garbler.items;
+      evaluator = map (λ v. v.items) i.evaluator.items;
+    } };
 }

@@ -6,7 +6,7 @@ use sqlite_items::Items;
 #[derive(Clone, Copy, Debug)]
 pub struct Wide {
     pub width: Width,
-    pub value: u64,
+    pub value: u128,
 }
 
 /// Numbers of one width.
@@ -14,7 +14,7 @@ pub struct Wide {
 pub struct Row {
     /// The width of each item.
     pub width: Width,
-    pub values: Items<u64>,
+    pub values: Items<u128>,
 }
 
 /// What a name stands for.

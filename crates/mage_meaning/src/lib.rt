@@ -9,19 +9,12 @@ mod expressions;
 mod inputs;
 mod known;
 mod laws;
-mod party;
+mod parties;
 mod places;
 mod run;
 mod statements;
-mod tokens;
 mod width;
-mod widths;
 
 pub use direct::oracle;
 pub use inputs::Inputs;
 pub use laws::unrolled_means_the_same;
-pub use party::Party;
-pub use widths::input_widths;
-
-#[cfg(test)]
-mod tests;

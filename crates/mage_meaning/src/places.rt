@@ -10,10 +10,10 @@ use crate::known::{Known, Wide};
 use crate::run::Run;
 use crate::width::Width;
 use mage_lex::Token;
-use mage_syntax::{ConstExpr, Item, bytes_of};
+use mage_tree::{ConstExpr, Item, bytes_of};
 
 /// The value at a place, and 0 where there is none.
-pub fn entry(values: &[u64], position: u128) -> u64
+pub fn entry(values: &[u128], position: u128) -> u128
     ensures { result ≡ slice_index values.now position }
 {
     match usize::try_from(position) {

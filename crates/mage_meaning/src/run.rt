@@ -11,8 +11,8 @@ pub struct Run<'a> {
     pub worker: u128,
     pub names: Scopes<'a, Known>,
     // Each worker's input values that aren't taken yet.
-    pub garbler: Vec<&'a [u64]>,
-    pub evaluator: Vec<&'a [u64]>,
+    pub garbler: Vec<&'a [u128]>,
+    pub evaluator: Vec<&'a [u128]>,
     // Each worker's outputs.
-    pub outputs: Vec<Vec<u64>>,
+    pub outputs: Vec<Vec<u128>>,
 }

@@ -2,7 +2,7 @@
 #![tactic(auto, unfolding(crate::specs::Run::moment_of))]
 
 ghost use Rattle.std.specs.Prelude.{◌≡◌, ◌+ℤ◌, pos, map, replicate, OnOk, IfOk};
-ghost use Rattle.mage_unroll.specs.Statements.{distance, holds};
+ghost use Rattle.mage_constants.specs.Ranges.{distance, holds};
 ghost use Rattle.mage_meaning.specs.Run.{moment_of};
 ghost use Rattle.mage_meaning.specs.Value.{bound, constant_in, number_in, number_of_expr, width_or_one, with_input, all_changes, in_scope, turns, change_of, assigned, item_at, with_output};
 ghost use Rattle.mage_meaning.specs.declared.known.Known.TheVariants as known;
@@ -14,12 +14,11 @@ use crate::expressions::number_of_expr;
 use crate::known::{Known, Row};
 use crate::places::{entry, item_at};
 use crate::run::Run;
-use crate::tokens::row_of;
 use crate::width::{Width, width_or_one};
 use mage_base::Memory;
+use mage_constants::holds;
 use mage_lex::Token;
-use mage_lex::symbols::EQUALS;
-use mage_syntax::{ConstExpr, Expr, Item, Stmt};
+use mage_tree::{ConstExpr, Expr, Item, Stmt};
 use sqlite_items::Items;
 use std::alloc::Global;
 
@@ -39,7 +38,8 @@ fn input<'a>(
     name: &'a Token,
     width: Width,
 ) -> Result<(), Memory>
-    ensures { OnOk result (moment_of run.new ≡ with_input length.now party.now name.now width (moment_of run.old)) }
+    ensures { OnOk result (moment_of run.new
+        ≡ with_input length.now party.now name.now width (moment_of run.old)) }
 {
     match length {
         None => {
@@ -56,7 +56,7 @@ fn input<'a>(
 }
 
 // The values of an array, each the same.
-fn copies(alloc: Global, count: usize, value: u64) -> Result<Items<u64>, Memory>
+fn copies(alloc: Global, count: usize, value: u128) -> Result<Items<u128>, Memory>
     ensures { IfOk result (λ items. items ≡ replicate count value) }
 {
     Ok(Items::from_vec(vec![in alloc; value; count]?))
@@ -71,7 +71,8 @@ fn array<'a>(
 ) -> Result<(), Memory>
     ensures { OnOk result (moment_of run.new ≡ bound name.now (known.Array (record {
       width = (number_of_expr value.now (moment_of run.old)).width;
-      values = replicate (number_in length.now (moment_of run.old)) (number_of_expr value.now (moment_of run.old)).value;
+      values = replicate (number_in length.now (moment_of run.old))
+          (number_of_expr value.now (moment_of run.old)).value;
     })) (moment_of run.old)) }
 {
     let number = number_of_expr(run, value);
@@ -81,13 +82,6 @@ fn array<'a>(
         values: copies(run.alloc, size, number.value)?,
     };
     bind(run, name, Known::Array(row))
-}
-
-// Whether a condition holds.
-fn holds(op: &Token, a: i128, b: i128) -> bool
-    ensures { result ≡ holds op.now a b }
-{
-    if row_of(op) == EQUALS { a == b } else { a < b }
 }
 
 // The statement `const`.
@@ -153,14 +147,14 @@ pub fn execute<'a>(run: &mut Run<'a>, statement: &'a Stmt) -> Result<(), Memory>
             length,
             ..
         } => input(run, length, party, name, width_or_one(ty)),
-        Stmt::Let { name, value, .. } => declare(run, name, value),
+        Stmt::Let { name, value, .. } => declare(run, name, value.get()),
         Stmt::Array {
             name,
             length,
             value,
             ..
-        } => array(run, name, &length.1, value),
-        Stmt::Assign { place, value, .. } => rebind(run, place, value),
+        } => array(run, name, &length.1, value.get()),
+        Stmt::Assign { place, value, .. } => rebind(run, place, value.get()),
         Stmt::Move { name, place, .. } => receive(run, name, place),
         Stmt::On { worker, body, .. } => on_worker(run, body.as_slice(), worker),
         Stmt::For {
@@ -186,14 +180,15 @@ pub fn execute<'a>(run: &mut Run<'a>, statement: &'a Stmt) -> Result<(), Memory>
                 Ok(())
             }
         }
-        Stmt::Output { value, .. } => output(run, value),
+        Stmt::Output { value, .. } => output(run, value.get()),
     }
 }
 
 /// What statements do, in their order.
 #[cycle(statements)]
 pub fn execute_all<'a>(run: &mut Run<'a>, body: &'a [Stmt]) -> Result<(), Memory>
-    ensures { OnOk result (moment_of run.new ≡ all_changes (map change_of body.now) (moment_of run.old)) }
+    ensures { OnOk result (moment_of run.new
+        ≡ all_changes (map change_of body.now) (moment_of run.old)) }
 {
     for statement in body {
         execute(run, statement)?;
@@ -204,7 +199,8 @@ pub fn execute_all<'a>(run: &mut Run<'a>, body: &'a [Stmt]) -> Result<(), Memory
 // Statements in a scope of their own.
 #[cycle(statements)]
 fn block<'a>(run: &mut Run<'a>, body: &'a [Stmt]) -> Result<(), Memory>
-    ensures { OnOk result (moment_of run.new ≡ in_scope (all_changes (map change_of body.now)) (moment_of run.old)) }
+    ensures { OnOk result (moment_of run.new
+        ≡ in_scope (all_changes (map change_of body.now)) (moment_of run.old)) }
 {
     run.names.enter()?;
     execute_all(run, body)?;
@@ -212,7 +208,8 @@ fn block<'a>(run: &mut Run<'a>, body: &'a [Stmt]) -> Result<(), Memory>
     Ok(())
 }
 
-// Statements on the worker that the constant names; the current worker is the one before again afterwards.
+// Statements on the worker that the constant names; the current worker is the one before again
+// afterwards.
 #[cycle(statements)]
 fn on_worker<'a>(run: &mut Run<'a>, body: &'a [Stmt], worker: &ConstExpr) -> Result<(), Memory>
     ensures { OnOk result (moment_of run.new ≡ record (all_changes (map change_of body.now)
@@ -236,8 +233,10 @@ fn repeat<'a>(
     to: &ConstExpr,
 ) -> Result<(), Memory>
     ensures { OnOk result (moment_of run.new ≡ turns
-        (distance (constant_in from.now (moment_of run.old)) (constant_in to.now (moment_of run.old)))
-        (constant_in from.now (moment_of run.old)) name.now (all_changes (map change_of body.now)) (moment_of run.old)) }
+        (distance (constant_in from.now (moment_of run.old))
+        (constant_in to.now (moment_of run.old)))
+        (constant_in from.now (moment_of run.old)) name.now
+        (all_changes (map change_of body.now)) (moment_of run.old)) }
 {
     let first = constant_in(run, from);
     let end = constant_in(run, to);
@@ -272,7 +271,8 @@ fn turn<'a>(
     number: i128,
     body: &'a [Stmt],
 ) -> Result<(), Memory>
-    ensures { OnOk result (moment_of run.new ≡ in_scope (λ inner. all_changes (map change_of body.now)
+    ensures { OnOk result (moment_of run.new ≡ in_scope
+        (λ inner. all_changes (map change_of body.now)
         (bound name.now (known.Constant number) inner)) (moment_of run.old)) }
 {
     run.names.enter()?;

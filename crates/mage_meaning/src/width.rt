@@ -1,12 +1,13 @@
 // Widths of numbers.
-ghost use Rattle.std.specs.Prelude.{◌≡◌, ◌≤◌, ◌^◌, ◌%◌};
+ghost use Rattle.std.specs.Prelude.{◌≡◌, ◌≤◌, ◌-◌, ◌^◌, ◌%◌};
 ghost use Rattle.mage_meaning.specs.Value.{width_or_one};
+ghost use Rattle.mage_tree.specs.Words.{MOST_WIDTH as most_width};
 
 use mage_lex::Token;
-use mage_syntax::{bytes_of, width_of_type};
+use mage_tree::{bytes_of, width_of_type};
 use std::marker::Model;
 
-/// A width in bits, at most 64.
+/// A width in bits, at most 128.
 #[derive(Clone, Copy, Debug)]
 pub struct Width {
     bits: u8,
@@ -14,12 +15,13 @@ pub struct Width {
 
 impl Model for Width {
     ghost use Rattle.std.specs.Prelude.{ℕ, ◌≤◌};
+    ghost use Rattle.mage_tree.specs.Words.{MOST_WIDTH as most_width};
 
     ghost Value = { ℕ };
 
     ghost view = { λ w. w.bits };
 
-    ghost invariant = { λ w. w.bits ≤ 64 };
+    ghost invariant = { λ w. w.bits ≤ most_width };
 
     ghost inverse = { λ bits. record { bits = bits } };
 }
@@ -27,27 +29,31 @@ impl Model for Width {
 impl Width {
     /// The width of so many bits.
     pub fn new(bits: u8) -> Self
-        requires { bits ≤ 64 }
+        requires { bits ≤ most_width }
         ensures { result ≡ bits }
     {
         Width { bits }
     }
 
-    /// 2 to the width.
-    pub fn modulus(self) -> u128
-        ensures value { result ≡ 2 ^ self }
-        ensures least { 1 ≤ result }
-        ensures most { result ≤ 2 ^ 64 }
-        ensures width { self ≤ 64 }
+    /// The greatest number of the width: each bit is 1.
+    pub fn mask(self) -> u128
+        ensures value { result ≡ 2 ^ self - 1 }
+        ensures width { self ≤ most_width }
     {
-        1u128 << self.bits
+        if self.bits < 128 {
+            (1 << self.bits) - 1
+        } else {
+            u128::MAX
+        }
     }
 
     /// A value modulo 2 to the width.
-    pub fn reduced(self, value: u128) -> u64
-        ensures { result ≡ value % 2 ^ self }
+    #[tactic(auto, using(std::proofs::lemmas::Nat::and_mask))]
+    pub fn reduced(self, value: u128) -> u128
+        ensures value { result ≡ value % 2 ^ self }
+        ensures width { self ≤ most_width }
     {
-        (value % self.modulus()) as u64
+        value & self.mask()
     }
 }
 

@@ -59,7 +59,8 @@ const_chain operand operators tokens = do
 unfoldable pub const_from : (ℕ → List Token → Read ConstExpr) → ℕ → List Token → Read ConstExpr
 const_from deeper zero tokens = const_atom deeper tokens
 const_from deeper (suc zero) tokens = const_unary deeper tokens
-const_from deeper (suc (suc below)) tokens = const_chain (const_from deeper (suc below)) (const_operators (suc (suc below))) tokens
+const_from deeper (suc (suc below)) tokens =
+    const_chain (const_from deeper (suc below)) (const_operators (suc (suc below))) tokens
 
 -- what stands behind the first token, a bracket or a sign, where there is room for it
 unfoldable pub const_in : ℕ → ℕ → List Token → Read ConstExpr

@@ -188,7 +188,8 @@ level_at operators operand room tokens = chain_at operand operators tokens
 -- an expression of this level
 unfoldable pub expr_from : (ℕ → List Token → Read Expr) → ℕ → ℕ → List Token → Read Expr
 expr_from deeper room zero tokens = unary_at deeper room tokens
-expr_from deeper room (suc below) tokens = level_at (operators (suc below)) (expr_from deeper room below) room tokens
+expr_from deeper room (suc below) tokens =
+    level_at (operators (suc below)) (expr_from deeper room below) room tokens
 
 -- what stands behind the first token, a bracket, a comma or `!`, where there is room for it
 unfoldable pub expr_in : ℕ → ℕ → List Token → Read Expr

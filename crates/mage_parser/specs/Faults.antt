@@ -23,7 +23,8 @@ fault_of text tokens (stops.TooDeep left) = fault_at wrong.TooDeep text (last_of
 fault_of text tokens stops.Memory = faults.Memory
 
 -- the source of the tokens, within the depth, or the fault
-abbrev pub parsed_from : List ℕ → List Token → Result (Option Token × List Stmt) Stop → Result (Option Token × List Stmt) LangFault
+abbrev pub parsed_from : List ℕ → List Token → Result (Option Token × List Stmt) Stop →
+    Result (Option Token × List Stmt) LangFault
 parsed_from text tokens (Ok source) = Ok source
 parsed_from text tokens (Err stop) = Err (fault_of text tokens stop)
 

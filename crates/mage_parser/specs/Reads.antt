@@ -41,15 +41,18 @@ calls class (word ∷ rest) = fits class word && begins (classes.Symbol OPEN_PAR
 -- the first token, which has to be of the class
 unfoldable pub one : Class → List Token → Read Token
 one class [] = Err (stops.Syntax 0)
-one class (token ∷ rest) = if fits class token then Ok (token, rest) else Err (stops.Syntax (length (token ∷ rest)))
+one class (token ∷ rest) =
+    if fits class token then Ok (token, rest) else Err (stops.Syntax (length (token ∷ rest)))
 
 -- the tokens after the first, which has to be of the class
 unfoldable pub after_one : Class → List Token → Result (List Token) Stop
 after_one class [] = Err (stops.Syntax 0)
-after_one class (token ∷ rest) = if fits class token then Ok rest else Err (stops.Syntax (length (token ∷ rest)))
+after_one class (token ∷ rest) =
+    if fits class token then Ok rest else Err (stops.Syntax (length (token ∷ rest)))
 
 -- operators and what `operand` reads behind each, as long as there are any, at most so many
-unfoldable pub operands : {A : Type 0} → (List Token → Read A) → Class → ℕ → List Token → Read (List (Token × A))
+unfoldable pub operands : {A : Type 0} → (List Token → Read A) → Class → ℕ → List Token →
+    Read (List (Token × A))
 operands operand operators zero tokens = Ok ([], tokens)
 operands operand operators (suc most) tokens =
     if begins operators tokens then (do

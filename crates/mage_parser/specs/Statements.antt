@@ -154,7 +154,8 @@ stmts_from first (suc most) tokens =
 -- the statements behind the first token, a bracket, where there is room for it
 unfoldable pub stmts_in : ℕ → List Token → Read (List Stmt)
 stmts_in zero tokens = Err (stops.TooDeep (length tokens))
-stmts_in (suc room) tokens = stmts_from (stmt_from (stmts_in room) room) (length (drop 1 tokens)) (drop 1 tokens)
+stmts_in (suc room) tokens =
+    stmts_from (stmt_from (stmts_in room) room) (length (drop 1 tokens)) (drop 1 tokens)
 
 unfoldable pub stmt_at : ℕ → List Token → Read Stmt
 stmt_at room tokens = stmt_from (stmts_in room) room tokens

@@ -129,7 +129,8 @@ fn const_chain(
     operators: Class,
     room: u32,
 ) -> Result<(Boxed<ConstExpr>, &[Token]), Stop>
-    ensures { Gives (λ x. (x.0, x.1.now)) result (const_chain (const_at room (const_rank operand)) operators tokens.now) }
+    ensures { Gives (λ x. (x.0, x.1.now)) result
+        (const_chain (const_at room (const_rank operand)) operators tokens.now) }
 {
     let (first, left) = const_at(alloc, tokens, operand, room)?;
     let (rest, left) = const_operands(alloc, left, operand, operators, room)?;

@@ -284,7 +284,8 @@ fn chain_at(
     operators: Class,
     room: u32,
 ) -> Result<(Boxed<Expr>, &[Token]), Stop>
-    ensures { Gives (λ x. (x.0, x.1.now)) result (chain_at (expr_at room (rank operand)) operators tokens.now) }
+    ensures { Gives (λ x. (x.0, x.1.now)) result
+        (chain_at (expr_at room (rank operand)) operators tokens.now) }
 {
     let (first, left) = expr_at(alloc, tokens, operand, room)?;
     let (rest, left) = expr_operands(alloc, left, operand, operators, room)?;
@@ -348,8 +349,8 @@ fn compare_at(alloc: Global, tokens: &[Token], room: u32) -> Result<(Boxed<Expr>
     Ok((comparison(alloc, first, op, second)?, left))
 }
 
-// An expression of this level, with room for so many brackets and signs. The functions of the levels are kept out of
-// line, so that each level takes its own place on the stack and no other's.
+// An expression of this level, with room for so many brackets and signs. The functions of the
+// levels are kept out of line, so that each level takes its own place on the stack and no other's.
 #[cycle(expressions)]
 #[tactic(auto, unfolding(crate::specs::Expressions::expr_at, crate::specs::Expressions::expr_from))]
 pub fn expr_at(

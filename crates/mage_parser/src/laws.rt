@@ -10,14 +10,14 @@ pub fn one_tree()
     ensures { (tokens : List TokenValue) → HasOneTree tokens }
 {}
 
-/// Where `parse` answers `Syntax`, what stands before is the front of a source, and no source goes on with the token
-/// there, or ends there where no token is left.
+/// Where `parse` answers `Syntax`, what stands before is the front of a source, and no source goes
+/// on with the token there, or ends there where no token is left.
 pub fn stops_at_first_wrong()
     ensures { (tokens : List TokenValue) → StopsAtFirstWrong tokens }
 {}
 
-/// A source within some depth, by the grammar, is a source none of whose tokens is deeper: the grammar counts as open
-/// what the depths of the tokens count.
+/// A source within some depth, by the grammar, is a source none of whose tokens is deeper: the
+/// grammar counts as open what the depths of the tokens count.
 pub fn depth_of_room()
     ensures { (tokens : List TokenValue) → HasDepthOfRoom tokens }
 {}
@@ -27,8 +27,9 @@ pub fn one_answer()
     ensures { (tokens : List TokenValue) → HasOneAnswer tokens }
 {}
 
-/// Reading is the grammar: of any tokens of any text it gives a source exactly where the grammar has that source within
-/// the depth, and a fault exactly where it is the first fault of the tokens, `TooDeep` included.
+/// Reading is the grammar: of any tokens of any text it gives a source exactly where the grammar
+/// has that source within the depth, and a fault exactly where it is the first fault of the tokens,
+/// `TooDeep` included.
 #[tactic(auto, using(crate::proofs::ReadingLaw::reading_is_the_grammar))]
 pub fn reading_is_the_grammar()
     ensures { ReadingIsTheGrammar }

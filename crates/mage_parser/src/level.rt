@@ -1,6 +1,7 @@
 // The levels of the grammar.
 
-/// The levels of a constant, each of which is made of the one before: an atom, one with signs, products and sums.
+/// The levels of a constant, each of which is made of the one before: an atom, one with signs,
+/// products and sums.
 #[derive(Clone, Copy, Debug, PartialEq, Eq)]
 pub enum ConstLevel {
     Atom,

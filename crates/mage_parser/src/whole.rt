@@ -118,25 +118,29 @@ fn fault_of(text: &[u8], tokens: &[Token], stop: Stop) -> LangFault
 
 /// The tree of the tokens of a text. The tokens are those that `lex` gives of it.
 ///
-/// `Syntax` at the first token with which no source of the grammar goes on, or just after the last byte where the
-/// tokens end too early; `TooDeep` at the token at which more than 100 brackets and signs are open at once; and
-/// `Memory` where there is none for the tree.
+/// `Syntax` at the first token with which no source of the grammar goes on, or just after the last
+/// byte where the tokens end too early; `TooDeep` at the token at which more than 100 brackets and
+/// signs are open at once; and `Memory` where there is none for the tree.
 #[tactic(auto, using(crate::proofs::Lexed::lexed_short, crate::proofs::Answered::found, crate::proofs::Answered::found_some, crate::proofs::Answered::refused), unfolding(crate::specs::Faults::parsed))]
 pub fn parse(alloc: Global, text: &[u8], tokens: &[Token]) -> Result<Source, LangFault>
     requires { tokens_of text.now ≡ Ok tokens.now }
     // What is read is the tree of the tokens.
-    ensures tree { IfOk result (λ source. IsSource most_depth source.workers source.body tokens.now) }
+    ensures tree { IfOk result
+        (λ source. IsSource most_depth source.workers source.body tokens.now) }
     // What is read is just what reading gives.
-    ensures exact { IfOk result (λ source. parsed text.now tokens.now ≡ Ok (source.workers, source.body)) }
+    ensures exact { IfOk result (λ source. parsed text.now tokens.now
+        ≡ Ok (source.workers, source.body)) }
     // What is a source is read, unless memory runs out.
-    ensures only { (workers : Option TokenValue) (body : List StmtValue) → IsSource most_depth workers body tokens.now →
+    ensures only { (workers : Option TokenValue) (body : List StmtValue) →
+        IsSource most_depth workers body tokens.now →
         IfErr result (λ fault. fault ≡ LangFault.Memory) }
     // Where reading stops, if it does.
     ensures fault { IfErr result (IsFaultOf (parsed text.now tokens.now)) }
     // That is the first fault of the tokens, by the grammar and their depths alone.
     ensures first { IfErr result (IsFirstFaultOf text.now tokens.now) }
     // Where the tokens have a first fault, it is answered, unless memory runs out.
-    ensures refuses { (kind : LangKind) (back : List TokenValue) → IsFirstFault kind tokens.now back →
+    ensures refuses { (kind : LangKind) (back : List TokenValue) →
+        IsFirstFault kind tokens.now back →
         IsErrAnd result (IsThisOrMemory (fault_at kind text.now back)) }
 {
     match source_at(alloc, tokens, MOST_DEPTH) {

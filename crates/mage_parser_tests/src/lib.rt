@@ -1,4 +1,5 @@
-//! Tests of the tree, its reader and its printer. Each expected value follows from the grammar in docs/LANGUAGE.md.
+//! Tests of the tree, its reader and its printer. Each expected value follows from the grammar in
+//! docs/LANGUAGE.md.
 #![tactic(auto)]
 
 #[cfg(test)]

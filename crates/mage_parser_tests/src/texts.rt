@@ -25,7 +25,8 @@ pub fn is_refused(alloc: Global, text: &str, wanted: LangKind, at: (u32, u32)) -
     }
 }
 
-// Whether the text, of one line, has its first wrong token where the `@` stands, which isn't part of it.
+// Whether the text, of one line, has its first wrong token where the `@` stands, which isn't part
+// of it.
 pub fn is_wrong_at(alloc: Global, marked: &str) -> Result<bool, LangFault> {
     let Some((front, back)) = marked.split_once('@') else {
         return Ok(false);

@@ -11,7 +11,7 @@ use Rattle.mage_belady.specs.declared.fault.ReplaceError.{ReplaceError}
 use Rattle.mage_belady.specs.declared.fault.ReplaceError.TheVariants as errors
 use Rattle.mage_belady.specs.Rule.{rule_of, tight_of}
 use Rattle.mage_pipe.specs.Answer.{FailsTight, TightOrGives}
-use Rattle.mage_pipe.specs.Summary.{places_for, trace_for, list_for, cost_of, cost_for, buffer_tight, unless_tight, worker_stats_of}
+use Rattle.mage_pipe.specs.Summary.{places_for, trace_for, list_for, cost_of, cost_for, buffer_tight, unless_tight, fitting_stats_of}
 
 -- an answer with a list, or with the step that is too tight
 pub answers_list : {X Y : Type 0} (view : X → Y) (answer : Result X ReplaceError) (o : Option Tight) (list : Y) → IfOk answer (λ x. view x ≡ list) → ((t : Tight) → (answer ≡ Err (errors.Tight t)) ↔ (o ≡ Some t)) → TightOrGives view answer (unless_tight o list)
@@ -29,17 +29,17 @@ not_tight None p x z y h = (refl, cc)
 not_tight (Some s) p x z y h = absurd (cc)
 
 module _ (limits : Limits) (instrs : List Instr) (places : List Place) (trace : List Step) (are_places : places ≡ places_for limits instrs) (are_steps : trace ≡ trace_for limits instrs) where
-  pub worker_tight : (t : Tight) → unless_tight (tight_of limits.frames 0 trace) (rule_of limits.frames instrs places trace) ≡ Err t → worker_stats_of limits instrs ≡ Err t
-  unfolding worker_stats_of
+  pub worker_tight : (t : Tight) → unless_tight (tight_of limits.frames 0 trace) (rule_of limits.frames instrs places trace) ≡ Err t → fitting_stats_of limits instrs ≡ Err t
+  unfolding fitting_stats_of
   worker_tight t h = first_tight (tight_of limits.frames 0 (trace_for limits instrs)) (buffer_tight limits.buffer (list_for limits instrs)) (list_for limits instrs) (cost_for limits instrs) t (rw (are_places, are_steps) at h)
 
-  pub worker_listed : (list : List Replaced) → unless_tight (tight_of limits.frames 0 trace) (rule_of limits.frames instrs places trace) ≡ Ok list → worker_stats_of limits instrs ≡ unless_tight (buffer_tight limits.buffer list) (cost_of instrs places trace list)
-  unfolding worker_stats_of
+  pub worker_listed : (list : List Replaced) → unless_tight (tight_of limits.frames 0 trace) (rule_of limits.frames instrs places trace) ≡ Ok list → fitting_stats_of limits instrs ≡ unless_tight (buffer_tight limits.buffer list) (cost_of instrs places trace list)
+  unfolding fitting_stats_of
   worker_listed list h =
       let both = not_tight (tight_of limits.frames 0 (trace_for limits instrs)) (buffer_tight limits.buffer (list_for limits instrs)) (list_for limits instrs) list (cost_for limits instrs) (rw (are_places, are_steps) at h) in
       rw (are_places, are_steps, sym both.1) both.0
 
   -- a fault of the list is the worker's
-  pub worker_fault : (fault : ReplaceError) → FailsTight fault (unless_tight (tight_of limits.frames 0 trace) (rule_of limits.frames instrs places trace)) → FailsTight fault (worker_stats_of limits instrs)
+  pub worker_fault : (fault : ReplaceError) → FailsTight fault (unless_tight (tight_of limits.frames 0 trace) (rule_of limits.frames instrs places trace)) → FailsTight fault (fitting_stats_of limits instrs)
   worker_fault (errors.Tight t) h = worker_tight t h
   worker_fault errors.Memory h = tt

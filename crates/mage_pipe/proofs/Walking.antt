@@ -1,6 +1,7 @@
 -- From worker to worker.
 use Rattle.std.proofs.Common.{◌≡◌, ◌<◌, ◌≤◌, ◌+◌, ◌∙◌, ap, sym, ℕ, List, [], ◌∷◌, ◌++◌, length, drop, get_or, append_assoc, Result, Ok, Err, refl}
 use Rattle.std.proofs.lemmas.List.{at_drop_more, at_drop_all, append-nil}
+use Rattle.mage_chains.specs.Chains.{◌>>=◌}
 use Rattle.mage_instr.specs.declared.instr.Instr.{Instr}
 use Rattle.mage_instr.specs.declared.replaced.Limits.{Limits}
 use Rattle.mage_lex.specs.declared.fault.LangFault.TheVariants as language
@@ -9,7 +10,7 @@ use Rattle.mage_pipe.specs.declared.fault.PlanFault.TheVariants as faults
 use Rattle.mage_pipe.specs.declared.stats.WorkerStats.{WorkerStats}
 use Rattle.mage_pipe.specs.Answer.{Fails}
 use Rattle.mage_pipe.specs.Fronts.{in_front}
-use Rattle.mage_pipe.specs.Summary.{◌>>=◌, tight_at, worker_stats_of, stats_from, stats_of}
+use Rattle.mage_pipe.specs.Summary.{tight_at, worker_stats_of, stats_from, stats_of}
 
 -- one more item in front
 one_more : {T : Type 0} (items : List T) (x : T) (rest : Result (List T) PlanFault) → in_front items (rest >>= (λ others. Ok (x ∷ others))) ≡ in_front (items ++ x ∷ []) rest

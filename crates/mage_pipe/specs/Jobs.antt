@@ -7,4 +7,6 @@ use Rattle.mage_instr.specs.declared.replaced.Replaced.TheVariants as entry
 abbrev pub jobs_of : List Replaced → ℕ
 jobs_of [] = 0
 jobs_of (entry.Do job ∷ list) = 1 + jobs_of list
-jobs_of (_ ∷ list) = jobs_of list
+jobs_of (entry.Fresh frame page ∷ list) = jobs_of list
+jobs_of (entry.Load frame page ∷ list) = jobs_of list
+jobs_of (entry.Save frame page ∷ list) = jobs_of list

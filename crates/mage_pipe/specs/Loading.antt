@@ -2,8 +2,8 @@
 use Rattle.std.specs.Prelude.{ℕ, List, Result, Ok}
 use Rattle.mage_lex.specs.Tokens.{tokens_of}
 use Rattle.mage_lex.specs.declared.fault.LangFault.{LangFault}
-use Rattle.mage_syntax.specs.Faults.{parsed}
-use Rattle.mage_unroll.specs.Constants.{◌>>=◌}
+use Rattle.mage_parser.specs.Faults.{parsed}
+use Rattle.mage_chains.specs.Chains.{◌>>=◌}
 use Rattle.mage_unroll.specs.Unrolled.{unrolled_of}
 use Rattle.mage_pipe.specs.declared.loaded.Loaded.{Loaded}
 

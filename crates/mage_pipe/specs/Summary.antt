@@ -1,6 +1,7 @@
 -- What a plan for a program costs.
 use Rattle.std.specs.Prelude.{◌+◌, ℕ, max, List, [], ◌∷◌, length, nat_eq, if◌then◌else◌, Option, Some, None, option_map, Result, Ok, Err}
 use Rattle.std.specs.Option.{option_or}
+use Rattle.mage_chains.specs.Chains.{◌>>=◌}
 use Rattle.mage_instr.specs.declared.instr.Instr.{Instr}
 use Rattle.mage_instr.specs.declared.instr.Place.{Place}
 use Rattle.mage_instr.specs.declared.instr.Step.{Step}
@@ -11,6 +12,7 @@ use Rattle.mage_instr.specs.declared.replaced.Tight.{Tight}
 use Rattle.mage_instr.specs.declared.replaced.Tight.TheVariants as tight
 use Rattle.mage_lex.specs.declared.fault.LangFault.{LangFault}
 use Rattle.mage_place.specs.Places.{next_page}
+use Rattle.mage_place.specs.TooWide.{page_tight}
 use Rattle.mage_belady.specs.Rule.{rule_of, tight_of, loads_of}
 use Rattle.mage_pipe.specs.declared.fault.PlanFault.{PlanFault}
 use Rattle.mage_pipe.specs.declared.fault.PlanFault.TheVariants as faults
@@ -27,7 +29,9 @@ most_pages (step ∷ steps) = max step.count (most_pages steps)
 abbrev pub saves_of : List Replaced → ℕ
 saves_of [] = 0
 saves_of (entry.Save frame page ∷ list) = 1 + saves_of list
-saves_of (_ ∷ list) = saves_of list
+saves_of (entry.Load frame page ∷ list) = saves_of list
+saves_of (entry.Fresh frame page ∷ list) = saves_of list
+saves_of (entry.Do job ∷ list) = saves_of list
 
 -- the instruction before which a page is first read or written, where those of the list are numbered from t
 abbrev pub swap_from : (t : ℕ) → List Replaced → Option ℕ
@@ -57,7 +61,7 @@ trace_for limits instrs = trace_of instrs (places_for limits instrs)
 abbrev pub list_for : Limits → List Instr → List Replaced
 list_for limits instrs = rule_of limits.frames instrs (places_for limits instrs) (trace_for limits instrs)
 
--- which limit is too low for a worker's instructions, if one is: first the frames, and then the buffer
+-- which limit is too low for a worker's instructions, if each value fits a page: first the frames, and then the buffer
 abbrev pub tight_for : Limits → List Instr → Option Tight
 tight_for limits instrs = option_or (tight_of limits.frames 0 (trace_for limits instrs)) (buffer_tight limits.buffer (list_for limits instrs))
 
@@ -80,14 +84,19 @@ abbrev pub unless_tight : {T : Type 0} → Option Tight → T → Result T Tight
 unless_tight None x = Ok x
 unless_tight (Some tight) x = Err tight
 
--- what the plan for a worker's instructions costs, or the limit that is too low
-unfoldable pub worker_stats_of : Limits → List Instr → Result WorkerStats Tight
-worker_stats_of limits instrs = unless_tight (tight_for limits instrs) (cost_for limits instrs)
+-- what the plan for a worker's instructions costs, where each value fits a page, or the limit that is too low
+unfoldable pub fitting_stats_of : Limits → List Instr → Result WorkerStats Tight
+fitting_stats_of limits instrs = unless_tight (tight_for limits instrs) (cost_for limits instrs)
 
-infixl 10 ◌>>=◌
-abbrev pub ◌>>=◌ : {A B : Type 0} → Result A PlanFault → (A → Result B PlanFault) → Result B PlanFault
-(Ok x) >>= f = f x
-(Err fault) >>= f = Err fault
+-- the same, unless a value doesn't fit a page
+abbrev pub if_it_fits : {T : Type 0} → Option Tight → Result T Tight → Result T Tight
+if_it_fits None fitting = fitting
+if_it_fits (Some tight) fitting = Err tight
+
+-- what the plan for a worker's instructions costs, or the limit that is too low: first the page, then the frames, and
+-- then the buffer
+unfoldable pub worker_stats_of : Limits → List Instr → Result WorkerStats Tight
+worker_stats_of limits instrs = if_it_fits (page_tight limits.page instrs) (fitting_stats_of limits instrs)
 
 -- a limit that is too low for a worker
 abbrev pub tight_at : {T : Type 0} → (worker : ℕ) → Result T Tight → Result T PlanFault

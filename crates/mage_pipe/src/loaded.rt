@@ -1,6 +1,6 @@
 // A source that was read.
 use mage_instr::Program;
-use mage_syntax::Source;
+use mage_tree::Source;
 
 /// The tree of a source without a fault, and the program that it unrolls to.
 #[derive(Debug, Drop)]

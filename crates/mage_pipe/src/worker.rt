@@ -1,26 +1,28 @@
 // The passes over the instructions of one worker.
-ghost use Rattle.std.specs.Prelude.{◌≡◌, ◌≤◌, length, IfOk, IfErr};
+ghost use Rattle.std.specs.Prelude.{◌≡◌, ◌≤◌, None, length, IfOk, IfErr};
 ghost use Rattle.mage_instr.specs.declared.instr.TheConstants.{NEVER};
 ghost use Rattle.mage_instr.specs.Limits.{AreInRange};
 ghost use Rattle.mage_instr.specs.Sound.{IsSound};
 ghost use Rattle.mage_instr.specs.Trace.{IsTrace};
 ghost use Rattle.mage_place.specs.Places.{next_page};
+ghost use Rattle.mage_place.specs.TooWide.{page_tight};
 ghost use Rattle.mage_belady.specs.declared.fault.ReplaceError.TheVariants as errors;
 ghost use Rattle.mage_belady.specs.Placed.{FitsTrace};
 ghost use Rattle.mage_belady.specs.Rule.{rule_of, tight_of};
 ghost use Rattle.mage_pipe.specs.Answer.{TightOrGives};
 ghost use Rattle.mage_pipe.specs.Jobs.{jobs_of};
-ghost use Rattle.mage_pipe.specs.Summary.{places_for, trace_for, buffer_tight, cost_of, unless_tight, worker_stats_of};
+ghost use Rattle.mage_pipe.specs.Summary.{places_for, trace_for, buffer_tight, cost_of, unless_tight, fitting_stats_of, worker_stats_of};
 
 use crate::WorkerStats;
 use crate::counts::{first_swap, loads, most_pages, page_count, saves};
 use mage_belady::{ReplaceError, replace};
 use mage_instr::{Instr, Limits, Place, Replaced, Step, Tight};
 use mage_next::next_uses;
-use mage_place::place;
+use mage_place::{page_tight, place};
 use std::alloc::Global;
 
 // What the plan for a worker's instructions costs, or the limit that is too low.
+#[tactic(auto, unfolding(crate::specs::Summary::worker_stats_of))]
 pub(crate) fn worker_stats(
     alloc: Global,
     instrs: &[Instr],
@@ -29,6 +31,23 @@ pub(crate) fn worker_stats(
     requires sound { IsSound instrs.now }
     requires limits { AreInRange limits }
     ensures { TightOrGives (λ stats. stats) result (worker_stats_of limits instrs.now) }
+{
+    match page_tight(instrs, limits.page) {
+        Some(tight) => Err(ReplaceError::Tight(tight)),
+        None => fitting_stats(alloc, instrs, limits),
+    }
+}
+
+// The same where each value fits a page.
+fn fitting_stats(
+    alloc: Global,
+    instrs: &[Instr],
+    limits: Limits,
+) -> Result<WorkerStats, ReplaceError>
+    requires sound { IsSound instrs.now }
+    requires limits { AreInRange limits }
+    requires fits { page_tight limits.page instrs.now ≡ None }
+    ensures { TightOrGives (λ stats. stats) result (fitting_stats_of limits instrs.now) }
 {
     let (places, trace) = placed(alloc, instrs, limits)?;
     let list = listed(alloc, instrs, &places, &trace, limits)?;
@@ -46,6 +65,7 @@ fn placed(
 ) -> Result<(Vec<Place>, Vec<Step>), ReplaceError>
     requires sound { IsSound instrs.now }
     requires limits { AreInRange limits }
+    requires fits { page_tight limits.page instrs.now ≡ None }
     ensures places { IfOk result (λ placed. placed.0.items ≡ places_for limits instrs.now) }
     ensures trace { IfOk result (λ placed. placed.1.items ≡ trace_for limits instrs.now) }
     ensures few { IfOk result (λ placed. next_page placed.0.items ≤ NEVER) }

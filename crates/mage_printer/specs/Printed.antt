@@ -19,7 +19,8 @@ spelling (kinds.Symbol row) = symbol_bytes row
 abbrev pub separator : TokenKind → ℕ
 separator (kinds.Word word) = 32
 separator (kinds.Number value) = 32
-separator (kinds.Symbol row) = if row == SEMICOLON || row == OPEN_BRACE || row == CLOSE_BRACE then 10 else 32
+separator (kinds.Symbol row) =
+    if row == SEMICOLON || row == OPEN_BRACE || row == CLOSE_BRACE then 10 else 32
 
 -- the two together
 unfoldable pub written : TokenKind → List ℕ
@@ -31,4 +32,5 @@ printed tokens = flat_map (λ (token : Token). written token.kind) tokens
 
 -- the tokens of the text, however long it is, are of these kinds, in this order
 abbrev pub HasKinds : List ℕ → List TokenKind → Type 0
-HasKinds text kinds = (tokens : List Token) × (tokens_after [] text 0 ≡ Ok tokens) × (kinds_of tokens ≡ kinds)
+HasKinds text kinds =
+    (tokens : List Token) × (tokens_after [] text 0 ≡ Ok tokens) × (kinds_of tokens ≡ kinds)

@@ -28,7 +28,8 @@ pub fn add_const(text: &mut Vec<u8>, value: &ConstExpr, depth: u32) -> Result<()
 #[cycle(constants)]
 fn add_node(text: &mut Vec<u8>, value: &ConstExpr, depth: u32) -> Result<(), Memory>
     ensures { OnOk result (text.new.items
-        ≡ text.old.items ++ const_layer written (const_made written depth) (out-ConstExpr value.now)) }
+        ≡ text.old.items
+        ++ const_layer written (const_made written depth) (out-ConstExpr value.now)) }
 {
     match value {
         ConstExpr::Chain { first, rest } => {
@@ -56,7 +57,8 @@ pub fn add_const_terms(
     terms: &[(Token, ConstExpr)],
     depth: u32,
 ) -> Result<(), Memory>
-    ensures { OnOk result (text.new.items ≡ text.old.items ++ terms_made written (const_made written depth) terms.now) }
+    ensures { OnOk result (text.new.items ≡ text.old.items
+        ++ terms_made written (const_made written depth) terms.now) }
 {
     for term in terms {
         add(text, &term.0)?;

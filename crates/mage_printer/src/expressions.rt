@@ -28,7 +28,8 @@ fn add_typed(text: &mut Vec<u8>, word: &Token, ty: &Token) -> Result<(), Memory>
 // Adds a `lit`.
 fn add_lit(text: &mut Vec<u8>, word: &Token, ty: &Token, value: &ConstExpr) -> Result<(), Memory>
     ensures { OnOk result (text.new.items ≡ text.old.items
-        ++ (head_made written word.now ty.now OPEN_PAREN ++ const_made written CONST_NODES value.now ++ written (TokenKind.Symbol CLOSE_PAREN))) }
+        ++ (head_made written word.now ty.now OPEN_PAREN ++ const_made written CONST_NODES value.now
+        ++ written (TokenKind.Symbol CLOSE_PAREN))) }
 {
     add_typed(text, word, ty)?;
     add_const(text, value, MOST_CONST)?;
@@ -86,7 +87,8 @@ fn add_node(text: &mut Vec<u8>, value: &Expr, depth: u32) -> Result<(), Memory>
 // Adds operators and the expressions behind them.
 #[cycle(expressions)]
 fn add_terms(text: &mut Vec<u8>, terms: &[(Token, Expr)], depth: u32) -> Result<(), Memory>
-    ensures { OnOk result (text.new.items ≡ text.old.items ++ terms_made written (expr_made written depth) terms.now) }
+    ensures { OnOk result (text.new.items ≡ text.old.items
+        ++ terms_made written (expr_made written depth) terms.now) }
 {
     for term in terms {
         add(text, &term.0)?;
@@ -110,7 +112,8 @@ fn add_call(text: &mut Vec<u8>, word: &Token, args: &[Expr], depth: u32) -> Resu
 // Adds arguments with commas between them.
 #[cycle(expressions)]
 fn add_args(text: &mut Vec<u8>, args: &[Expr], depth: u32) -> Result<(), Memory>
-    ensures { OnOk result (text.new.items ≡ text.old.items ++ args_made written (expr_made written depth) args.now) }
+    ensures { OnOk result (text.new.items ≡ text.old.items
+        ++ args_made written (expr_made written depth) args.now) }
 {
     match args.split_first() {
         Some((first, rest)) => {

@@ -14,7 +14,8 @@ use mage_tree::{ConstExpr, Expr, Item, Stmt};
 // Adds a word, a name and a symbol.
 #[tactic(auto, unfolding(crate::specs::Made::head_made))]
 fn add_head(text: &mut Vec<u8>, word: &Token, name: &Token, row: u8) -> Result<(), Memory>
-    ensures { OnOk result (text.new.items ≡ text.old.items ++ head_made written word.now name.now row) }
+    ensures { OnOk result (text.new.items ≡ text.old.items
+        ++ head_made written word.now name.now row) }
 {
     add(text, word)?;
     add(text, name)?;
@@ -37,7 +38,8 @@ fn add_constant(
     name: &Token,
     value: &ConstExpr,
 ) -> Result<(), Memory>
-    ensures { OnOk result (text.new.items ≡ text.old.items ++ constant_made written word.now name.now value.now) }
+    ensures { OnOk result (text.new.items ≡ text.old.items
+        ++ constant_made written word.now name.now value.now) }
 {
     add_head(text, word, name, symbols::ASSIGN)?;
     add_const(text, value, MOST_CONST)?;
@@ -65,7 +67,8 @@ fn add_input(
 
 #[tactic(auto, unfolding(crate::specs::Made::let_made))]
 fn add_let(text: &mut Vec<u8>, word: &Token, name: &Token, value: &Expr) -> Result<(), Memory>
-    ensures { OnOk result (text.new.items ≡ text.old.items ++ let_made written word.now name.now value.now) }
+    ensures { OnOk result (text.new.items ≡ text.old.items
+        ++ let_made written word.now name.now value.now) }
 {
     add_head(text, word, name, symbols::ASSIGN)?;
     add_value(text, value)
@@ -93,7 +96,8 @@ fn add_array(
 
 #[tactic(auto, unfolding(crate::specs::Made::assign_made))]
 fn add_assign(text: &mut Vec<u8>, place: &Item, eq: &Token, value: &Expr) -> Result<(), Memory>
-    ensures { OnOk result (text.new.items ≡ text.old.items ++ assign_made written place.now eq.now value.now) }
+    ensures { OnOk result (text.new.items ≡ text.old.items
+        ++ assign_made written place.now eq.now value.now) }
 {
     add_item(text, place)?;
     add(text, eq)?;
@@ -102,7 +106,8 @@ fn add_assign(text: &mut Vec<u8>, place: &Item, eq: &Token, value: &Expr) -> Res
 
 #[tactic(auto, unfolding(crate::specs::Made::move_made))]
 fn add_move(text: &mut Vec<u8>, word: &Token, name: &Token, place: &Item) -> Result<(), Memory>
-    ensures { OnOk result (text.new.items ≡ text.old.items ++ move_made written word.now name.now place.now) }
+    ensures { OnOk result (text.new.items ≡ text.old.items
+        ++ move_made written word.now name.now place.now) }
 {
     add_head(text, word, name, symbols::ASSIGN)?;
     add_item(text, place)?;
@@ -111,7 +116,8 @@ fn add_move(text: &mut Vec<u8>, word: &Token, name: &Token, place: &Item) -> Res
 
 #[tactic(auto, unfolding(crate::specs::Made::output_made))]
 fn add_output(text: &mut Vec<u8>, word: &Token, value: &Expr) -> Result<(), Memory>
-    ensures { OnOk result (text.new.items ≡ text.old.items ++ output_made written word.now value.now) }
+    ensures { OnOk result (text.new.items ≡ text.old.items
+        ++ output_made written word.now value.now) }
 {
     add(text, word)?;
     add_value(text, value)
@@ -119,7 +125,8 @@ fn add_output(text: &mut Vec<u8>, word: &Token, value: &Expr) -> Result<(), Memo
 
 // Adds a statement without blocks; of one with blocks nothing.
 pub fn add_simple(text: &mut Vec<u8>, statement: &Stmt) -> Result<(), Memory>
-    ensures { OnOk result (text.new.items ≡ text.old.items ++ simple_made written (out-Stmt statement.now)) }
+    ensures { OnOk result (text.new.items ≡ text.old.items
+        ++ simple_made written (out-Stmt statement.now)) }
 {
     match statement {
         Stmt::Constant { word, name, value } => add_constant(text, word, name, value),
@@ -155,7 +162,8 @@ pub fn add_for(
     from: &ConstExpr,
     to: &ConstExpr,
 ) -> Result<(), Memory>
-    ensures { OnOk result (text.new.items ≡ text.old.items ++ for_made written word.now name.now from.now to.now) }
+    ensures { OnOk result (text.new.items ≡ text.old.items
+        ++ for_made written word.now name.now from.now to.now) }
 {
     add(text, word)?;
     add(text, name)?;
@@ -174,7 +182,8 @@ pub fn add_if(
     op: &Token,
     right: &ConstExpr,
 ) -> Result<(), Memory>
-    ensures { OnOk result (text.new.items ≡ text.old.items ++ if_made written word.now left.now op.now right.now) }
+    ensures { OnOk result (text.new.items ≡ text.old.items
+        ++ if_made written word.now left.now op.now right.now) }
 {
     add(text, word)?;
     add_const(text, left, MOST_CONST)?;

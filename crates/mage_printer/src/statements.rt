@@ -17,7 +17,8 @@ use sqlite_items::Items;
 #[cycle(statements)]
 #[tactic(auto, unfolding(crate::specs::Made::stmt_made))]
 fn add_stmt(text: &mut Vec<u8>, statement: &Stmt, depth: u32) -> Result<(), Memory>
-    ensures { OnOk result (text.new.items ≡ text.old.items ++ stmt_made written depth statement.now) }
+    ensures { OnOk result (text.new.items ≡ text.old.items
+        ++ stmt_made written depth statement.now) }
 {
     if depth == 0 {
         return Ok(());
@@ -67,7 +68,8 @@ fn add_node(text: &mut Vec<u8>, statement: &Stmt, depth: u32) -> Result<(), Memo
 #[cycle(statements)]
 #[tactic(auto, unfolding(crate::specs::Made::block_made))]
 fn add_block(text: &mut Vec<u8>, body: &[Stmt], depth: u32) -> Result<(), Memory>
-    ensures { OnOk result (text.new.items ≡ text.old.items ++ block_made written (stmt_made written depth) body.now) }
+    ensures { OnOk result (text.new.items ≡ text.old.items
+        ++ block_made written (stmt_made written depth) body.now) }
 {
     add_symbol(text, symbols::OPEN_BRACE)?;
     add_stmts(text, body, depth)?;
@@ -78,7 +80,8 @@ fn add_block(text: &mut Vec<u8>, body: &[Stmt], depth: u32) -> Result<(), Memory
 #[cycle(statements)]
 #[tactic(auto, unfolding(crate::specs::Made::else_made))]
 fn add_else(text: &mut Vec<u8>, body: &Option<Items<Stmt>>, depth: u32) -> Result<(), Memory>
-    ensures { OnOk result (text.new.items ≡ text.old.items ++ else_made written (stmt_made written depth) body.now) }
+    ensures { OnOk result (text.new.items ≡ text.old.items
+        ++ else_made written (stmt_made written depth) body.now) }
 {
     match body {
         Some(body) => {
@@ -92,7 +95,8 @@ fn add_else(text: &mut Vec<u8>, body: &Option<Items<Stmt>>, depth: u32) -> Resul
 // Adds statements.
 #[cycle(statements)]
 pub fn add_stmts(text: &mut Vec<u8>, body: &[Stmt], depth: u32) -> Result<(), Memory>
-    ensures { OnOk result (text.new.items ≡ text.old.items ++ flat_map (stmt_made written depth) body.now) }
+    ensures { OnOk result (text.new.items ≡ text.old.items
+        ++ flat_map (stmt_made written depth) body.now) }
 {
     for statement in body {
         add_stmt(text, statement, depth)?;

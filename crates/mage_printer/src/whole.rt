@@ -19,7 +19,8 @@ const MOST_STMT: u32 = 101;
 // Adds the number of workers, where it is given.
 #[tactic(auto, unfolding(crate::specs::Made::workers_made))]
 fn add_workers(text: &mut Vec<u8>, workers: Option<&Token>) -> Result<(), Memory>
-    ensures { OnOk result (text.new.items ≡ text.old.items ++ workers_made written (option_copied workers.entry)) }
+    ensures { OnOk result (text.new.items ≡ text.old.items
+        ++ workers_made written (option_copied workers.entry)) }
 {
     match workers {
         Some(number) => {
@@ -34,7 +35,8 @@ fn add_workers(text: &mut Vec<u8>, workers: Option<&Token>) -> Result<(), Memory
 // The text of a source, as its tree has it.
 #[tactic(auto, unfolding(crate::specs::Made::source_made))]
 fn text_of(alloc: Global, source: &Source) -> Result<Vec<u8>, Memory>
-    ensures made { IfOk result (λ text. text.items ≡ source_made written source.now.workers source.now.body) }
+    ensures made { IfOk result (λ text. text.items
+        ≡ source_made written source.now.workers source.now.body) }
     ensures tokens { HasTokens source.now.workers source.now.body }
 {
     let mut text = Vec::new(alloc);
@@ -43,16 +45,19 @@ fn text_of(alloc: Global, source: &Source) -> Result<Vec<u8>, Memory>
     Ok(text)
 }
 
-/// The text of a source: each token followed by one space, or by a line feed after `;`, `{` and `}`. A number is
-/// written by its value, in decimal digits.
+/// The text of a source: each token followed by one space, or by a line feed after `;`, `{` and
+/// `}`. A number is written by its value, in decimal digits.
 ///
-/// `Memory` where there is none for the text. The text may be longer than the 1,048,576 bytes that `lex` takes.
+/// `Memory` where there is none for the text. The text may be longer than the 1,048,576 bytes that
+/// `lex` takes.
 pub fn print(alloc: Global, source: &Source) -> Result<Vec<u8>, Memory>
     // The bytes are those of the tokens, each as it is spelled, and of what stands behind each.
-    ensures bytes { (tokens : List TokenValue) → IsSource MOST_DEPTH source.now.workers source.now.body tokens →
+    ensures bytes { (tokens : List TokenValue) →
+        IsSource MOST_DEPTH source.now.workers source.now.body tokens →
         IfOk result (λ text. text.items ≡ printed tokens) }
     // The tokens of the text are those of the source, but for their places.
-    ensures tokens { (tokens : List TokenValue) → IsSource MOST_DEPTH source.now.workers source.now.body tokens →
+    ensures tokens { (tokens : List TokenValue) →
+        IsSource MOST_DEPTH source.now.workers source.now.body tokens →
         IfOk result (λ text. HasKinds text.items (kinds_of tokens)) }
 {
     text_of(alloc, source)

@@ -87,6 +87,7 @@ fits class.Party token = is_word keyword.Garbler token || is_word keyword.Evalua
 fits class.Choosing token = is_call callable.Min token || is_call callable.Max token
 fits class.Counting token = is_call callable.Count token
 fits class.Adding token = is_symbol PLUS token || is_symbol MINUS token
-fits class.Scaling token = is_symbol TIMES token || is_symbol DIVIDE token || is_symbol REMAINDER token
+fits class.Scaling token =
+    is_symbol TIMES token || is_symbol DIVIDE token || is_symbol REMAINDER token
 fits class.Shifting token = is_symbol SHIFT_LEFT token || is_symbol SHIFT_RIGHT token
 fits class.Comparing token = is_symbol EQUALS token || is_symbol LESS token

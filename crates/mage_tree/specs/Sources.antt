@@ -1,5 +1,6 @@
--- The grammar of a source. `IsSource room workers body tokens` says that the tokens are those of a source, with the
--- number of workers where it is given, and that no more than `room` brackets and signs are open at any of them.
+-- The grammar of a source. `IsSource room workers body tokens` says that the tokens are those of a
+-- source, with the number of workers where it is given, and that no more than `room` brackets and
+-- signs are open at any of them.
 use Rattle.std.specs.Prelude.{ℕ, ◌<◌, List, [], ◌∷◌, map, All, Option, None, Some}
 use Rattle.mage_lex.specs.Symbols.{SEMICOLON, SYMBOL_COUNT}
 use Rattle.mage_lex.specs.Limits.{NUMBER_LIMIT}
@@ -14,9 +15,11 @@ use Rattle.mage_tree.specs.Grammar.{Is, AreStmts}
 
 pub data IsSource : ℕ → Option Token → List Stmt → List Token → Type 0 where
   counted : {room : ℕ} {word number end : Token} {body : List Stmt} {rest : List Token} →
-      Is (class.Word keyword.Workers) word → Is class.Number number → Is (class.Symbol SEMICOLON) end → AreStmts room body rest [] →
+      Is (class.Word keyword.Workers) word → Is class.Number number →
+      Is (class.Symbol SEMICOLON) end → AreStmts room body rest [] →
       IsSource room (Some number) body (word ∷ number ∷ end ∷ rest)
-  uncounted : {room : ℕ} {body : List Stmt} {tokens : List Token} → AreStmts room body tokens [] → IsSource room None body tokens
+  uncounted : {room : ℕ} {body : List Stmt} {tokens : List Token} → AreStmts room body tokens [] →
+      IsSource room None body tokens
 
 -- the most brackets and signs that may be open at once
 abbrev pub MOST_DEPTH : ℕ
@@ -39,4 +42,6 @@ IsTokenKind (kinds.Symbol row) = row < SYMBOL_COUNT
 
 -- the parts are the tree of some tokens as a text has them, within the depth
 abbrev pub HasTokens : Option Token → List Stmt → Type 0
-HasTokens workers body = (tokens : List Token) × IsSource MOST_DEPTH workers body tokens × All IsTokenKind (kinds_of tokens)
+HasTokens workers body =
+    (tokens : List Token) × IsSource MOST_DEPTH workers body tokens
+    × All IsTokenKind (kinds_of tokens)

@@ -40,6 +40,7 @@ width_of_type (u ∷ tens ∷ ones ∷ []) =
     then Some (10 * (tens - 48) + (ones - 48)) else None
 width_of_type (u ∷ hundreds ∷ tens ∷ ones ∷ []) =
     let width = 100 + 10 * (tens - 48) + (ones - 48) in
-    if u == 117 && hundreds == 49 && is_digit_from 48 tens && is_digit_from 48 ones && nat_le width MOST_WIDTH
+    if u == 117 && hundreds == 49 && is_digit_from 48 tens && is_digit_from 48 ones
+    && nat_le width MOST_WIDTH
     then Some width else None
 width_of_type other = None

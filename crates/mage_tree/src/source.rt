@@ -8,8 +8,8 @@ use mage_lex::Token;
 use sqlite_items::Items;
 use std::marker::Model;
 
-/// A source: the number of workers where it is given, and the statements. It is the tree of its tokens by the
-/// grammar, with at most 100 brackets and signs open at once.
+/// A source: the number of workers where it is given, and the statements. It is the tree of its
+/// tokens by the grammar, with at most 100 brackets and signs open at once.
 #[derive(Debug, Drop)]
 pub struct Source {
     workers: Option<Token>,

@@ -1,6 +1,6 @@
-// The tree of a source. It keeps every token that the grammar doesn't fix and every token at which a fault can
-// stand: `word` is the first token of a statement or the keyword of an expression, `ty` a type word, `eq` the
-// `=`, and the token beside an index or a length is its `[`.
+// The tree of a source. It keeps every token that the grammar doesn't fix and every token at which
+// a fault can stand: `word` is the first token of a statement or the keyword of an expression, `ty`
+// a type word, `eq` the `=`, and the token beside an index or a length is its `[`.
 use mage_lex::Token;
 use sqlite_items::{Boxed, Items};
 
@@ -75,8 +75,8 @@ pub enum Stmt {
     },
 }
 
-/// An expression over secret values. A chain is one level of binary operators other than shifts; a level without
-/// an operator makes no node.
+/// An expression over secret values. A chain is one level of binary operators other than shifts; a
+/// level without an operator makes no node.
 #[derive(Debug, Drop)]
 pub enum Expr {
     Chain {

@@ -3,7 +3,7 @@ use Rattle.std.proofs.Common.{◌≡◌, ℕ, List, Option, Some, None, ap, sym,
 use Rattle.mage_lex.specs.declared.token.Token.{Token}
 use Rattle.mage_scopes.specs.Scopes.{Meaning, found, replaced}
 use Rattle.mage_scopes.proofs.Laws.{replaced-absent, replaced-replaced}
-use Rattle.mage_syntax.specs.Words.{bytes_of}
+use Rattle.mage_tree.specs.Words.{bytes_of}
 use Rattle.mage_unroll.specs.declared.state.Named.{Named}
 use Rattle.mage_unroll.specs.State.{State, rebound, rebound_name, assigned}
 

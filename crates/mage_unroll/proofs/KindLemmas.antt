@@ -2,24 +2,32 @@
 use Rattle.std.proofs.Common.{◌+◌, ◌++◌, ◌∷◌, [], ℕ, ℤ, Bool, true, false, cond, ◌==◌, List, length, map, Option, Some, None, Result, Ok, Err, refl, sym, subst}
 use Rattle.std.specs.Prelude.{IsTrue, is_some, slice_get, nat_le, nat_lt}
 use Rattle.mage_instr.specs.declared.instr.Instr.{Instr}
+use Rattle.mage_instr.specs.declared.op.Op.{Op}
+use Rattle.mage_instr.specs.declared.op.Op.TheVariants as op
 use Rattle.mage_lex.specs.declared.fault.LangFault.{LangFault}
 use Rattle.mage_lex.specs.declared.fault.LangKind.{LangKind}
 use Rattle.mage_lex.specs.declared.fault.LangKind.TheVariants as wrong
 use Rattle.mage_lex.specs.declared.token.Token.{Token}
 use Rattle.mage_scopes.specs.Scopes.{found}
-use Rattle.mage_syntax.specs.Words.{bytes_of}
-use Rattle.mage_syntax.specs.declared.tree.ConstExpr.{ConstExpr, map-ConstExpr, roll-ConstExpr}
-use Rattle.mage_syntax.specs.declared.tree.ConstExpr.TheOpen.{ConstExpr-F}
-use Rattle.mage_syntax.specs.declared.tree.ConstExpr.TheFolds.{fold-roll-ConstExpr, ind-ConstExpr}
-use Rattle.mage_syntax.specs.declared.tree.Expr.{Expr, map-Expr, roll-Expr}
-use Rattle.mage_syntax.specs.declared.tree.Expr.TheOpen.{Expr-F}
-use Rattle.mage_syntax.specs.declared.tree.Expr.TheFolds.{fold-roll-Expr, ind-Expr}
-use Rattle.mage_syntax.specs.declared.tree.Item.{Item}
+use Rattle.mage_tree.specs.Words.{bytes_of, callable_of}
+use Rattle.mage_tree.specs.declared.class.Callable.{Callable}
+use Rattle.mage_tree.specs.declared.class.Callable.TheVariants as callable
+use Rattle.mage_tree.specs.declared.tree.ConstExpr.{ConstExpr, map-ConstExpr, roll-ConstExpr}
+use Rattle.mage_tree.specs.declared.tree.ConstExpr.TheOpen.{ConstExpr-F}
+use Rattle.mage_tree.specs.declared.tree.ConstExpr.TheFolds.{fold-roll-ConstExpr, ind-ConstExpr}
+use Rattle.mage_tree.specs.declared.tree.Expr.{Expr, map-Expr, roll-Expr}
+use Rattle.mage_tree.specs.declared.tree.Expr.TheOpen.{Expr-F}
+use Rattle.mage_tree.specs.declared.tree.Expr.TheFolds.{fold-roll-Expr, ind-Expr}
+use Rattle.mage_tree.specs.declared.tree.Item.{Item}
 use Rattle.mage_unroll.specs.declared.state.Array.{Array}
 use Rattle.mage_unroll.specs.declared.state.Variable.{Variable}
-use Rattle.mage_unroll.specs.Constants.{◌>>=◌, fault_at, or_fault, Constants, ConstMeaning, row_of, operated, const_chain, const_layer, constant_of}
-use Rattle.mage_unroll.specs.Expressions.{ExprMeaning, amount_in, literal_in, combined, chained, shifted, all_shifted, all_of, chosen, expr_layer, variable_of}
+use Rattle.mage_chains.specs.Chains.{◌>>=◌}
+use Rattle.mage_constants.specs.Answer.{fault_at, or_fault}
+use Rattle.mage_constants.specs.Constants.{Constants, ConstMeaning, operated, const_chain, const_layer, constant_of}
+use Rattle.mage_constants.specs.Tokens.{row_of}
+use Rattle.mage_unroll.specs.Expressions.{ExprMeaning, op_of, shift_of, amount_in, literal_in, of_two, combined, chained, shifted, all_shifted, all_of, chosen, call_of_one, call_of_two, call_by, called, expr_layer, variable_of}
 use Rattle.mage_unroll.specs.Kinds.{is_unrolling, IsUnrolling}
+use Rattle.mage_unroll.specs.Limits.{MOST_STEPS, MOST_INSTRS}
 use Rattle.mage_unroll.specs.State.{State, stepped_by, emitted, defined, is_free, constants_of, as_scalar, as_array, position_of, item_of, place_with, place_of, own_place, width_at, is_as_wide}
 
 -- its fault, if it has one, is of unrolling
@@ -79,11 +87,11 @@ kinds-constant = ind-ConstExpr (λ e. ConstKinds (constant_of e)) (λ x y is.
 -- ---- steps, instructions, names and places
 
 pub kinds-stepped : (n : ℕ) (word : Token) (s : State) → Kinds (stepped_by n word s)
-kinds-stepped n word s = kinds-test (nat_le (s.steps + n) 16000000) (record s { steps = s.steps + n }) wrong.TooLong word refl
+kinds-stepped n word s = kinds-test (nat_le (s.steps + n) MOST_STEPS) (record s { steps = s.steps + n }) wrong.TooLong word refl
 
 pub kinds-emitted : (word : Token) (worker : ℕ) (instr : Instr) (s : State) → Kinds (emitted word worker instr s)
 kinds-emitted word worker instr s =
-    kinds-test (nat_lt (length s.program) 2000000) (record s { program = s.program ++ record { worker = worker; instr = instr } ∷ [] }) wrong.TooLong word refl
+    kinds-test (nat_lt (length s.program) MOST_INSTRS) (record s { program = s.program ++ record { worker = worker; instr = instr } ∷ [] }) wrong.TooLong word refl
 
 pub kinds-defined : (word : Token) (instr : Instr) (s : State) → Kinds (defined word instr s)
 kinds-defined word instr s = kinds-then (emitted word s.worker instr s) _ (kinds-emitted word s.worker instr s) (λ after. tt)
@@ -123,16 +131,22 @@ kinds-own_place item s =
 abbrev ExprKinds : ExprMeaning → Type 0
 ExprKinds f = (word : Token) (s : State) → Kinds (f word s)
 
+kinds-of_two : (o : Op) (word token : Token) (a b : Variable) (s : State) → Kinds (of_two o word token a b s)
+unfolding of_two
+kinds-of_two o word token a b s =
+    kinds-then (is_as_wide token a.width b.width) _ (kinds-is_as_wide token a.width b.width) (λ same. kinds-defined word _ s)
+
 kinds-combined : (word token : Token) (a b : Variable) (s : State) → Kinds (combined word token a b s)
 unfolding combined
 kinds-combined word token a b s =
-    kinds-then (is_as_wide token a.width b.width) _ (kinds-is_as_wide token a.width b.width) (λ same. kinds-defined word _ s)
+    kinds-then (or_fault wrong.WidthDiffers token (op_of token)) _ (kinds-or_fault wrong.WidthDiffers token (op_of token) refl) (λ o. kinds-of_two o word token a b s)
 
 kinds-shifted : (word token : Token) (amount : ConstExpr) (a : Variable) (s : State) → Kinds (shifted word token amount a s)
 unfolding shifted
 kinds-shifted word token amount a s =
     kinds-then (constant_of amount (constants_of s)) _ (kinds-constant amount (constants_of s)) (λ value.
-    kinds-then (or_fault wrong.ConstFault token (amount_in value)) _ (kinds-or_fault wrong.ConstFault token (amount_in value) refl) (λ places. kinds-defined word _ s))
+    kinds-then (or_fault wrong.ConstFault token (amount_in value)) _ (kinds-or_fault wrong.ConstFault token (amount_in value) refl) (λ places.
+    kinds-then (or_fault wrong.WidthDiffers token (shift_of token)) _ (kinds-or_fault wrong.WidthDiffers token (shift_of token) refl) (λ o. kinds-defined word _ s)))
 
 kinds-all_shifted : (rest : List (Token × ConstExpr)) (word : Token) (a : Variable) (s : State) → Kinds (all_shifted rest word a s)
 kinds-all_shifted [] word a s = tt
@@ -148,6 +162,27 @@ kinds-chosen word keyword [] s = refl
 kinds-chosen word keyword (a ∷ []) s = refl
 kinds-chosen word keyword (a ∷ b ∷ []) s = refl
 kinds-chosen word keyword (a ∷ b ∷ c ∷ d ∷ others) s = refl
+
+kinds-call_of_one : (o : Op) (word keyword : Token) (values : List Variable) (s : State) → Kinds (call_of_one o word keyword values s)
+kinds-call_of_one o word keyword (a ∷ []) s = kinds-defined word _ s
+kinds-call_of_one o word keyword [] s = refl
+kinds-call_of_one o word keyword (a ∷ b ∷ others) s = refl
+
+kinds-call_of_two : (o : Op) (word keyword : Token) (values : List Variable) (s : State) → Kinds (call_of_two o word keyword values s)
+kinds-call_of_two o word keyword (a ∷ b ∷ []) s = kinds-of_two o word keyword a b s
+kinds-call_of_two o word keyword [] s = refl
+kinds-call_of_two o word keyword (a ∷ []) s = refl
+kinds-call_of_two o word keyword (a ∷ b ∷ c ∷ others) s = refl
+
+kinds-call_by : (which : Option Callable) (word keyword : Token) (values : List Variable) (s : State) → Kinds (call_by which word keyword values s)
+kinds-call_by (Some callable.Min) word keyword values s = kinds-call_of_two op.Min word keyword values s
+kinds-call_by (Some callable.Max) word keyword values s = kinds-call_of_two op.Max word keyword values s
+kinds-call_by (Some callable.Count) word keyword values s = kinds-call_of_one op.Count word keyword values s
+kinds-call_by None word keyword values s = refl
+
+kinds-called : (word keyword : Token) (values : List Variable) (s : State) → Kinds (called word keyword values s)
+unfolding called
+kinds-called word keyword values s = kinds-call_by (callable_of (bytes_of keyword)) word keyword values s
 
 module _ (X : Type 0) (f : X → ExprMeaning) (Y : Type 0) (base : Y → X) (law : (t : Y) → ExprKinds (f (base t))) where
   kinds-chained : (rest : List (Token × Y)) (word : Token) (a : Variable) (s : State) → Kinds (chained (map (λ (term : Token × X). (term.0, f term.1)) (map (λ (term : Token × Y). (term.0, base term.1)) rest)) word a s)
@@ -182,6 +217,8 @@ module _ (X : Type 0) (f : X → ExprMeaning) (Y : Type 0) (base : Y → X) (law
       kinds-then (f (base operand) word s) _ (law operand word s) (λ value. kinds-defined word _ value.1))
   kinds-expr_layer (Expr-F.Mux keyword args) word s =
       kinds-then (all_of (map f (map base args)) word s) _ (kinds-all_of args word s) (λ values. kinds-chosen word keyword values.0 values.1)
+  kinds-expr_layer (Expr-F.Call keyword args) word s =
+      kinds-then (all_of (map f (map base args)) word s) _ (kinds-all_of args word s) (λ values. kinds-called word keyword values.0 values.1)
 
 kinds-expr_roll : (Y : Type 0) (base : Y → Expr) (law : (t : Y) → ExprKinds (variable_of (base t))) (e : Expr-F Y) → ExprKinds (variable_of (roll-Expr (map-Expr Y Expr base e)))
 unfolding variable_of

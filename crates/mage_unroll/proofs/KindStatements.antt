@@ -4,21 +4,24 @@ use Rattle.std.specs.Option.{option_map}
 use Rattle.std.specs.Prelude.{IfErr}
 use Rattle.mage_instr.specs.declared.instr.Program.{Program}
 use Rattle.mage_lex.specs.declared.fault.LangFault.TheVariants as faults
-use Rattle.mage_unroll.specs.Answer.{Gives}
+use Rattle.mage_constants.specs.Answer.{Gives}
 use Rattle.mage_unroll.specs.Kinds.{IsUnrolling}
 use Rattle.mage_lex.specs.declared.fault.LangFault.{LangFault}
 use Rattle.mage_lex.specs.declared.fault.LangKind.TheVariants as wrong
 use Rattle.mage_lex.specs.declared.token.Token.{Token}
-use Rattle.mage_syntax.specs.declared.tree.ConstExpr.{ConstExpr}
-use Rattle.mage_syntax.specs.declared.tree.Stmt.{Stmt, map-Stmt, roll-Stmt}
-use Rattle.mage_syntax.specs.declared.tree.Stmt.TheOpen.{Stmt-F}
-use Rattle.mage_syntax.specs.declared.tree.Stmt.TheFolds.{fold-roll-Stmt, ind-Stmt}
+use Rattle.mage_tree.specs.declared.tree.ConstExpr.{ConstExpr}
+use Rattle.mage_tree.specs.declared.tree.Stmt.{Stmt, map-Stmt, roll-Stmt}
+use Rattle.mage_tree.specs.declared.tree.Stmt.TheOpen.{Stmt-F}
+use Rattle.mage_tree.specs.declared.tree.Stmt.TheFolds.{fold-roll-Stmt, ind-Stmt}
 use Rattle.mage_unroll.specs.declared.state.Named.TheVariants as named
-use Rattle.mage_unroll.specs.Constants.{◌>>=◌, or_fault, constant_of}
+use Rattle.mage_chains.specs.Chains.{◌>>=◌}
+use Rattle.mage_constants.specs.Answer.{or_fault}
+use Rattle.mage_constants.specs.Constants.{constant_of}
 use Rattle.mage_unroll.specs.Expressions.{variable_of}
 use Rattle.mage_unroll.specs.State.{State, Held, stepped, stepped_by, emitted, defined, is_free, bound, constants_of, place_of, own_place, width_at, is_as_wide}
-use Rattle.mage_unroll.specs.Statements.{Act, all_acts, entering, in_scope, length_at, inputs, input_of, first_token, worker_in, named_scalar, transferred, moved, turn, turns, distance, condition, branch, stmt_layer, executed}
-use Rattle.mage_unroll.specs.Unrolled.{workers_of, opening, emitted_by, emitted_of, unrolled_of}
+use Rattle.mage_constants.specs.Ranges.{number_below, size_in, distance}
+use Rattle.mage_unroll.specs.Statements.{Act, all_acts, entering, in_scope, length_at, inputs, input_of, first_token, named_scalar, transferred, moved, turn, turns, condition, branch, stmt_layer, executed}
+use Rattle.mage_unroll.specs.Unrolled.{workers_of, opening, emitted_by, unrolled_of}
 use Rattle.mage_unroll.proofs.KindLemmas.{Kinds, kinds-then, kinds-or_fault, kinds-if, kinds-constant, kinds-stepped, kinds-emitted, kinds-defined, kinds-free, kinds-width_at, kinds-is_as_wide, kinds-place, kinds-own_place, kinds-variable}
 
 abbrev ActKinds : Act → Type 0
@@ -118,7 +121,7 @@ module _ (X : Type 0) (f : X → Act) (Y : Type 0) (base : Y → X) (law : (t : 
   kinds-stmt_layer (Stmt-F.On word worker body) s =
       kinds-then (stepped word s) _ (kinds-stepped 1 word s) (λ s.
       kinds-then (constant_of worker (constants_of s)) _ (kinds-constant worker (constants_of s)) (λ number.
-      kinds-then (or_fault wrong.BadWorker (first_token worker) (worker_in s.workers number)) _ (kinds-or_fault wrong.BadWorker (first_token worker) (worker_in s.workers number) refl) (λ chosen.
+      kinds-then (or_fault wrong.BadWorker (first_token worker) (number_below s.workers number)) _ (kinds-or_fault wrong.BadWorker (first_token worker) (number_below s.workers number) refl) (λ chosen.
       kinds-then (all_acts (map f (map base body)) (record s { worker = chosen })) _ (kinds-all body (record s { worker = chosen })) (λ after. tt))))
   kinds-stmt_layer (Stmt-F.For word name from to body) s =
       kinds-then (stepped word s) _ (kinds-stepped 1 word s) (λ s.
@@ -152,13 +155,16 @@ kinds-workers : (count : Option Token) → Kinds (workers_of count)
 kinds-workers None = tt
 kinds-workers (Some number) = kinds-or_fault wrong.BadWorker number _ refl
 
+kinds-emitted_by : (workers : ℕ) (body : List Stmt) → Kinds (emitted_by workers body)
+unfolding emitted_by
+kinds-emitted_by workers body = kinds-then (all_acts (map executed body) (opening workers)) _ (kinds-body body (opening workers)) (λ after. tt)
+
 -- the faults of a source
 pub kinds-unrolled : (count : Option Token) (body : List Stmt) → Kinds (unrolled_of count body)
-unfolding unrolled_of emitted_of emitted_by
+unfolding unrolled_of
 kinds-unrolled count body =
     kinds-then (workers_of count) _ (kinds-workers count) (λ workers.
-    kinds-then (emitted_of count body) _ (kinds-then (workers_of count) _ (kinds-workers count) (λ workers.
-    kinds-then (all_acts (map executed body) (opening workers)) _ (kinds-body body (opening workers)) (λ after. tt))) (λ program. tt))
+    kinds-then (emitted_by workers body) _ (kinds-emitted_by workers body) (λ program. tt))
 
 -- the fault of an answer that is the definition's
 pub kinds-answer : (count : Option Token) (body : List Stmt) (answer : Result Program LangFault) → Gives (λ program. program) answer (unrolled_of count body) → IfErr answer IsUnrolling

@@ -4,13 +4,12 @@ mod KindLemmas
 mod KindStatements
 mod Listing
 mod SoundEffects
-mod SoundExpressions
+pub mod SoundExpressions
 mod SoundLists
 mod SoundNames
-mod SoundPlaces
+pub mod SoundPlaces
 pub mod SoundPrograms
-pub mod SoundResults
-mod SoundStates
+pub mod SoundStates
 mod SoundStatements
 mod Trees
 mod Turns

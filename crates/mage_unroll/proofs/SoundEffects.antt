@@ -1,45 +1,52 @@
 -- What statements emit and bind: inputs, moves, and places that are bound anew.
-use Rattle.std.proofs.Common.{◌≡◌, ◌<◌, ◌≤◌, ℕ, zero, suc, Bool, true, false, cond, eqb, List, [], ◌∷◌, ◌++◌, Option, Some, None, Ok, set, refl, sym, ap, ◌∙◌, subst, ⊎_elim, arith}
+use Rattle.std.proofs.Common.{◌≡◌, ◌<◌, ◌≤◌, ◌+◌, length, ℕ, zero, suc, Bool, true, false, cond, eqb, List, [], ◌∷◌, ◌++◌, Option, Some, None, Ok, set, refl, sym, ap, ◌∙◌, subst, ⊎_elim, arith}
 use Rattle.std.specs.Prelude.{slice_index, codes}
 use Rattle.std.specs.Str.{bytes_eq}
-use Rattle.std.proofs.lemmas.Bool.{eqb-true, cases_Bool, cond-true, cond-false}
+use Rattle.std.proofs.lemmas.Bool.{eqb-true, eq-eqb, cases_Bool, cond-true, cond-false}
+use Rattle.std.proofs.lemmas.List.{length_push}
 use Rattle.mage_instr.specs.declared.instr.Instr.{Instr}
 use Rattle.mage_instr.specs.declared.op.Op.TheVariants as op
-use Rattle.mage_instr.specs.Opcodes.{width_of_arg}
+use Rattle.mage_instr.specs.Opcodes.{most_workers, width_of_arg}
 use Rattle.mage_lex.specs.declared.token.Token.{Token}
 use Rattle.mage_scopes.specs.Scopes.{Meaning, found, replaced}
-use Rattle.mage_syntax.specs.Words.{bytes_of}
-use Rattle.mage_syntax.specs.declared.tree.ConstExpr.{ConstExpr}
+use Rattle.mage_tree.specs.Words.{bytes_of}
+use Rattle.mage_tree.specs.declared.tree.ConstExpr.{ConstExpr}
 use Rattle.mage_unroll.specs.declared.state.Array.{Array}
-use Rattle.mage_unroll.specs.declared.state.Emitted.{Emitted}
+use Rattle.mage_linked.specs.declared.emitted.Emitted.{Emitted}
 use Rattle.mage_unroll.specs.declared.state.Held.{Held}
 use Rattle.mage_unroll.specs.declared.state.Named.{Named}
 use Rattle.mage_unroll.specs.declared.state.Named.TheVariants as named
 use Rattle.mage_unroll.specs.declared.state.Scalar.{Scalar}
 use Rattle.mage_unroll.specs.declared.state.Variable.{Variable}
+use Rattle.mage_unroll.specs.Limits.{MOST_INSTRS}
 use Rattle.mage_unroll.specs.State.{State, held_scalar, place_with, instr_of, stepped, emitted, defined, as_scalar, as_array, bound, rebound_name, assigned}
 use Rattle.mage_unroll.specs.Statements.{length_at, named_scalar, named_array, party_of, inputs, input_of, transferred, moved}
-use Rattle.mage_unroll.specs.Unrolled.{own_instrs}
+use Rattle.mage_linked.specs.Emission.{own_instrs}
+use Rattle.mage_linked.specs.Linked.{IsTransfer}
 use Rattle.mage_unroll.proofs.SoundLists.{DefinesAt, CanFollow}
 use Rattle.mage_unroll.proofs.SoundNames.{replaced-Means}
-use Rattle.mage_unroll.proofs.SoundExpressions.{of_none, of_one}
+use Rattle.mage_unroll.proofs.SoundExpressions.{args_none, args_one}
 use Rattle.mage_unroll.proofs.SoundPlaces.{AreItems-set, scalar-found, array-found, array-Named, IsHeld, item-is}
-use Rattle.mage_unroll.proofs.SoundResults.{then_ok, same_Ok, or_fault_ok}
-use Rattle.mage_unroll.proofs.SoundStates.{IsWidth, IsVariable, AreItems, IsNamed, Well, After, Makes, AreItems-Keeps, After-emitted, Makes-defined, After-nothing, After-stepped, then_After, variable_before, Well-bound, Well-scopes}
+use Rattle.mage_chains.proofs.Ends.{then_ok, same_Ok}
+use Rattle.mage_constants.proofs.Trees.{or_fault_ok}
+use Rattle.mage_unroll.proofs.SoundStates.{IsWidth, IsVariable, AreItems, IsNamed, Well, After, Makes, AreItems-Keeps, After-transfer, IsVariable-new, after_emission, new_variable, emitted_is, defined_is, Makes-defined, After-nothing, After-stepped, then_After, variable_before, Well-bound, Well-scopes}
+
+true_not_false : ◌≡◌ {A = Bool} true false → ⊥
+true_not_false h = cc
 
 -- ---- instructions that can follow
 
 pub follows_output : (xs : List Instr) (v : Variable) → IsWidth v.width → DefinesAt xs v.index v.width → CanFollow xs (instr_of op.Output v.width (v.index ∷ 0 ∷ 0 ∷ []) 0)
 follows_output xs v w h =
-    record { width_ok = (w.0, w.1, refl); args = of_one (λ k. DefinesAt xs (slice_index (v.index ∷ 0 ∷ 0 ∷ []) k) (width_of_arg op.Output v.width 0 k)) h }
+    record { width_ok = (w.0, w.1, refl); args = args_one (λ k. DefinesAt xs (slice_index (v.index ∷ 0 ∷ 0 ∷ []) k) (width_of_arg op.Output v.width 0 k)) h }
 
-follows_send : (xs : List Instr) (v : Variable) (to : ℕ) → to < 16 → IsWidth v.width → DefinesAt xs v.index v.width → CanFollow xs (instr_of op.Send v.width (v.index ∷ 0 ∷ 0 ∷ []) to)
+follows_send : (xs : List Instr) (v : Variable) (to : ℕ) → to < most_workers → IsWidth v.width → DefinesAt xs v.index v.width → CanFollow xs (instr_of op.Send v.width (v.index ∷ 0 ∷ 0 ∷ []) to)
 follows_send xs v to few w h =
-    record { width_ok = (w.0, w.1, few); args = of_one (λ k. DefinesAt xs (slice_index (v.index ∷ 0 ∷ 0 ∷ []) k) (width_of_arg op.Send v.width to k)) h }
+    record { width_ok = (w.0, w.1, few); args = args_one (λ k. DefinesAt xs (slice_index (v.index ∷ 0 ∷ 0 ∷ []) k) (width_of_arg op.Send v.width to k)) h }
 
-follows_recv : (xs : List Instr) (width from : ℕ) → from < 16 → IsWidth width → CanFollow xs (instr_of op.Recv width (0 ∷ 0 ∷ 0 ∷ []) from)
+follows_recv : (xs : List Instr) (width from : ℕ) → from < most_workers → IsWidth width → CanFollow xs (instr_of op.Recv width (0 ∷ 0 ∷ 0 ∷ []) from)
 follows_recv xs width from few w =
-    record { width_ok = (w.0, w.1, few); args = of_none (λ k. DefinesAt xs (slice_index (0 ∷ 0 ∷ 0 ∷ []) k) (width_of_arg op.Recv width from k)) }
+    record { width_ok = (w.0, w.1, few); args = args_none (λ k. DefinesAt xs (slice_index (0 ∷ 0 ∷ 0 ∷ []) k) (width_of_arg op.Recv width from k)) }
 
 party_small : (test : Bool) → cond test 1 0 ≤ 1
 party_small true = omega arith
@@ -49,7 +56,7 @@ follows_input : (xs : List Instr) (width : ℕ) (party : Token) → IsWidth widt
 follows_input xs width party w =
     record {
       width_ok = (w.0, w.1, party_small (bytes_eq (bytes_of party) (codes "evaluator")));
-      args = of_none (λ k. DefinesAt xs (slice_index (0 ∷ 0 ∷ 0 ∷ []) k) (width_of_arg op.Input width (party_of party) k));
+      args = args_none (λ k. DefinesAt xs (slice_index (0 ∷ 0 ∷ 0 ∷ []) k) (width_of_arg op.Input width (party_of party) k));
     }
 
 -- ---- inputs
@@ -64,7 +71,7 @@ module _ (workers : ℕ) where
   input-Makes word party width s s' v a w h =
       let i = instr_of op.Input width (0 ∷ 0 ∷ 0 ∷ []) (party_of party) in
       let b = then_ok (emitted word s.worker i s) _ (v, s') h in
-      (Makes-defined workers word i s s' v a (follows_input (own_instrs s.program s.worker) width party w) refl h, sym (ap (λ (p : Variable × State). p.0.width) (same_Ok _ (v, s') b.2)))
+      (Makes-defined workers word i s s' v a refl (follows_input (own_instrs s.program s.worker) width party w) refl h, sym (ap (λ (p : Variable × State). p.0.width) (same_Ok _ (v, s') b.2)))
 
   inputs-After : (n : ℕ) (word party : Token) (width : ℕ) (items items' : List ℕ) (s s' : State) → Well workers s → IsWidth width → AreItems s.program s.worker width items → inputs n word party width items s ≡ Ok (items', s') → After workers s s' × AreItems s'.program s.worker width items'
   inputs-After zero word party width items items' s s' a w h e =
@@ -103,18 +110,30 @@ module _ (workers : ℕ) where
 
   -- ---- moves
 
-  transferred-Makes : (word : Token) (held : Held) (s s' : State) (v : Variable) → Well workers s → IsHeld workers s.program held → transferred word held s ≡ Ok (v, s') → Makes workers s s' v
+  transferred-Makes : (word : Token) (held : Held) (s s' : State) (v : Variable) → Well workers s → IsHeld workers s.program held → (held.worker ≡ s.worker → ⊥) → transferred word held s ≡ Ok (v, s') → Makes workers s s' v
   unfolding transferred
-  transferred-Makes word held s s' v a h e =
+  transferred-Makes word held s s' v a h apart e =
       let x = held.variable in
+      let w = held.worker in
       let send = instr_of op.Send x.width (x.index ∷ 0 ∷ 0 ∷ []) s.worker in
-      let recv = instr_of op.Recv x.width (0 ∷ 0 ∷ 0 ∷ []) held.worker in
-      let b = then_ok (emitted word held.worker send s) _ (v, s') e in
-      let to : s.worker < 16 = omega (arith, a.within, a.few) in
-      let from : held.worker < 16 = omega (arith, h.0, a.few) in
-      let sent = After-emitted workers word held.worker send s b.0 a (follows_send (own_instrs s.program held.worker) x s.worker to h.1.width h.1.defines) b.1 in
-      let made = Makes-defined workers word recv b.0 s' v sent.well (follows_recv (own_instrs b.0.program b.0.worker) x.width held.worker from h.1.width) refl b.2 in
-      record { after = then_After workers s b.0 s' sent made.after; variable = made.variable }
+      let recv = instr_of op.Recv x.width (0 ∷ 0 ∷ 0 ∷ []) w in
+      let sent : Emitted = record { worker = w; instr = send } in
+      let received : Emitted = record { worker = s.worker; instr = recv } in
+      let b = then_ok (emitted word w send s) _ (v, s') e in
+      let is = emitted_is word w send s b.0 b.1 in
+      let last = defined_is word recv (after_emission w send s) s' v (subst (λ y. defined word recv y ≡ Ok (v, s')) (sym is.1) b.2) in
+      let to : s.worker < most_workers = omega (arith, a.within, a.few) in
+      let from : w < most_workers = omega (arith, h.0, a.few) in
+      let can_send = follows_send (own_instrs s.program w) x s.worker to h.1.width h.1.defines in
+      let p1 = s.program ++ sent ∷ [] in
+      let can_receive = follows_recv (own_instrs p1 s.worker) x.width w from h.1.width in
+      let pair : IsTransfer workers sent received = record { sends = refl; receives = refl; to = refl; from = refl; apart = apart; sender = h.0; receiver = a.within; same_width = refl } in
+      let room : length s.program + 1 < MOST_INSTRS = omega (arith, length_push s.program sent, last.0) in
+      let made : Makes workers s (after_emission s.worker recv (after_emission w send s)) (new_variable s.worker recv p1) = record {
+        after = After-transfer workers sent received s a room pair can_send can_receive;
+        variable = IsVariable-new p1 s.worker recv can_receive refl;
+      } in
+      subst (λ y. Makes workers s s' y) last.2 (subst (λ y. Makes workers s y (new_variable s.worker recv p1)) last.1 made)
 
   pub moved-Well : (word name : Token) (held : Held) (s s' : State) → Well workers s → IsHeld workers s.program held → moved word name held s ≡ Ok s' → Well workers s'
   unfolding moved
@@ -126,10 +145,13 @@ module _ (workers : ℕ) where
           let variable = subst (λ w. IsVariable s.program w held.variable) (eqb-true held.worker s.worker t) h.1 in
           subst (λ y. Well workers y) same (Well-bound workers s name (named_scalar s.worker held.variable) a (a.within, variable))
 
+      differs : held.worker ≡ s.worker → eqb held.worker s.worker ≡ false → ⊥
+      differs same t = true_not_false (sym (eq-eqb held.worker s.worker same) ∙ t)
+
       there : eqb held.worker s.worker ≡ false → Well workers s'
       there t =
           let c = then_ok (transferred word held s) _ s' (sym (cond-false (eqb held.worker s.worker) _ _ t) ∙ e) in
-          subst (λ y. Well workers y) (same_Ok (bound name (named_scalar s.worker c.0.0) c.0.1) s' c.2) (bound_variable s c.0.1 name c.0.0 a (transferred-Makes word held s c.0.1 c.0.0 a h c.1))
+          subst (λ y. Well workers y) (same_Ok (bound name (named_scalar s.worker c.0.0) c.0.1) s' c.2) (bound_variable s c.0.1 name c.0.0 a (transferred-Makes word held s c.0.1 c.0.0 a h (λ same. differs same t) c.1))
 
   -- ---- places that are bound anew
 

@@ -5,22 +5,24 @@ use Rattle.std.proofs.lemmas.Bool.{and_parts, eqb-true, leb-true}
 use Rattle.mage_lex.specs.declared.fault.LangKind.TheVariants as wrong
 use Rattle.mage_lex.specs.declared.token.Token.{Token}
 use Rattle.mage_scopes.specs.Scopes.{found}
-use Rattle.mage_syntax.specs.Words.{bytes_of, is_digit_from, width_of_type}
-use Rattle.mage_syntax.specs.declared.tree.ConstExpr.{ConstExpr}
-use Rattle.mage_syntax.specs.declared.tree.Item.{Item}
+use Rattle.mage_tree.specs.Words.{MOST_WIDTH, bytes_of, is_digit_from, width_of_type}
+use Rattle.mage_tree.specs.declared.tree.ConstExpr.{ConstExpr}
+use Rattle.mage_tree.specs.declared.tree.Item.{Item}
 use Rattle.mage_unroll.specs.declared.state.Array.{Array}
-use Rattle.mage_unroll.specs.declared.state.Emitted.{Emitted}
+use Rattle.mage_linked.specs.declared.emitted.Emitted.{Emitted}
 use Rattle.mage_unroll.specs.declared.state.Named.{Named}
 use Rattle.mage_unroll.specs.declared.state.Named.TheVariants as named
 use Rattle.mage_unroll.specs.declared.state.Scalar.{Scalar}
 use Rattle.mage_unroll.specs.declared.state.Held.{Held}
-use Rattle.mage_unroll.specs.Constants.{or_fault, constant_of}
+use Rattle.mage_constants.specs.Answer.{or_fault}
+use Rattle.mage_constants.specs.Constants.{constant_of}
 use Rattle.mage_unroll.specs.State.{State, as_scalar, as_array, constants_of, held_scalar, held_item, item_of, place_with, place_of, own_place, position_of, width_at, is_as_wide}
 use Rattle.mage_unroll.proofs.SoundLists.{DefinesAt}
 use Rattle.mage_unroll.proofs.SoundNames.{found-Means}
-use Rattle.mage_unroll.proofs.SoundResults.{none_not_some, same_Some, cond_ok, cond_some, then_ok, same_Ok, or_fault_ok}
+use Rattle.mage_chains.proofs.Ends.{none_not_some, same_Some, cond_ok, cond_some, then_ok, same_Ok}
+use Rattle.mage_constants.proofs.Trees.{or_fault_ok}
 use Rattle.mage_unroll.proofs.SoundStates.{IsWidth, IsVariable, AreItems, IsNamed, Well}
-use Rattle.mage_unroll.specs.Unrolled.{own_instrs}
+use Rattle.mage_linked.specs.Emission.{own_instrs}
 
 -- ---- lists of items
 
@@ -112,12 +114,14 @@ one_digit ones h =
     let high = leb-true ones 57 both.1 in
     (omega arith, omega arith)
 
-two_digits : (tens ones : ℕ) → is_digit_from 49 tens ≡ true → nat_le (10 * (tens - 48) + (ones - 48)) 64 ≡ true → IsWidth (10 * (tens - 48) + (ones - 48))
+two_digits : (tens ones : ℕ) → is_digit_from 49 tens ≡ true → is_digit_from 48 ones ≡ true → IsWidth (10 * (tens - 48) + (ones - 48))
 two_digits tens ones h k =
     let both = and_parts (nat_le 49 tens) (nat_le tens 57) h in
+    let other = and_parts (nat_le 48 ones) (nat_le ones 57) k in
     let low = leb-true 49 tens both.0 in
-    let high = leb-true (10 * (tens - 48) + (ones - 48)) 64 k in
-    (omega arith, high)
+    let high = leb-true tens 57 both.1 in
+    let most = leb-true ones 57 other.1 in
+    (omega arith, omega arith)
 
 IsWidth-type : (bytes : List ℕ) (width : ℕ) → width_of_type bytes ≡ Some width → IsWidth width
 IsWidth-type (u ∷ ones ∷ []) width h =
@@ -125,15 +129,21 @@ IsWidth-type (u ∷ ones ∷ []) width h =
     let both = and_parts (eqb u 117) (is_digit_from 49 ones) c.0 in
     subst IsWidth c.1 (one_digit ones both.1)
 IsWidth-type (u ∷ tens ∷ ones ∷ []) width h =
-    let value = 10 * (tens - 48) + (ones - 48) in
-    let c = cond_some (eqb u 117 && is_digit_from 49 tens && is_digit_from 48 ones && nat_le value 64) value width h in
+    let c = cond_some (eqb u 117 && is_digit_from 49 tens && is_digit_from 48 ones) (10 * (tens - 48) + (ones - 48)) width h in
     let a = and_parts _ _ c.0 in
     let b = and_parts _ _ a.0 in
-    let d = and_parts _ _ b.0 in
-    subst IsWidth c.1 (two_digits tens ones d.1 a.1)
+    subst IsWidth c.1 (two_digits tens ones b.1 a.1)
+IsWidth-type (u ∷ hundreds ∷ tens ∷ ones ∷ []) width h =
+    let value = 100 + 10 * (tens - 48) + (ones - 48) in
+    let digits = eqb u 117 && eqb hundreds 49 && is_digit_from 48 tens && is_digit_from 48 ones in
+    let c = cond_some (digits && nat_le value MOST_WIDTH) value width h in
+    let a = and_parts digits (nat_le value MOST_WIDTH) c.0 in
+    let high = leb-true value MOST_WIDTH a.1 in
+    let is : IsWidth value = (omega arith, omega arith) in
+    subst IsWidth c.1 is
 IsWidth-type [] width h = absurd (none_not_some width h)
 IsWidth-type (u ∷ []) width h = absurd (none_not_some width h)
-IsWidth-type (u ∷ a ∷ b ∷ c ∷ rest) width h = absurd (none_not_some width h)
+IsWidth-type (u ∷ a ∷ b ∷ c ∷ d ∷ rest) width h = absurd (none_not_some width h)
 
 pub IsWidth-at : (ty : Token) (width : ℕ) → width_at ty ≡ Ok width → IsWidth width
 IsWidth-at ty width h = IsWidth-type (bytes_of ty) width (or_fault_ok _ ty (width_of_type (bytes_of ty)) width h)

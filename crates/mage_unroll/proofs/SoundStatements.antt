@@ -1,35 +1,30 @@
 -- The execution of statements keeps each worker's list sound.
-use Rattle.std.proofs.Common.{◌≡◌, ◌<◌, ◌&&◌, ℕ, zero, suc, Bool, true, false, List, [], ◌∷◌, map, replicate, ℤ, pos, ◌+ℤ◌, Option, Some, None, Ok, sym, subst}
-use Rattle.std.specs.Prelude.{unsigned_abs, int_le, int_lt}
-use Rattle.std.proofs.lemmas.Bool.{and_parts}
+use Rattle.std.proofs.Common.{◌≡◌, ◌<◌, ℕ, zero, suc, Bool, true, false, List, [], ◌∷◌, map, replicate, ℤ, pos, ◌+ℤ◌, Option, Some, None, Ok, refl, sym, subst}
 use Rattle.mage_instr.specs.declared.op.Op.TheVariants as op
 use Rattle.mage_lex.specs.declared.fault.LangKind.TheVariants as wrong
 use Rattle.mage_lex.specs.declared.token.Token.{Token}
 use Rattle.mage_scopes.specs.Scopes.{entered, left}
-use Rattle.mage_syntax.specs.declared.tree.ConstExpr.{ConstExpr}
-use Rattle.mage_syntax.specs.declared.tree.Stmt.{Stmt, map-Stmt, roll-Stmt}
-use Rattle.mage_syntax.specs.declared.tree.Stmt.TheOpen.{Stmt-F}
-use Rattle.mage_syntax.specs.declared.tree.Stmt.TheFolds.{fold-roll-Stmt, ind-Stmt}
+use Rattle.mage_tree.specs.declared.tree.ConstExpr.{ConstExpr}
+use Rattle.mage_tree.specs.declared.tree.Stmt.{Stmt, map-Stmt, roll-Stmt}
+use Rattle.mage_tree.specs.declared.tree.Stmt.TheOpen.{Stmt-F}
+use Rattle.mage_tree.specs.declared.tree.Stmt.TheFolds.{fold-roll-Stmt, ind-Stmt}
 use Rattle.mage_unroll.specs.declared.state.Named.{Named}
 use Rattle.mage_unroll.specs.declared.state.Named.TheVariants as named
-use Rattle.mage_unroll.specs.Constants.{or_fault, constant_of}
+use Rattle.mage_constants.specs.Answer.{or_fault}
+use Rattle.mage_constants.specs.Constants.{constant_of}
 use Rattle.mage_unroll.specs.Expressions.{variable_of}
 use Rattle.mage_unroll.specs.State.{State, instr_of, stepped, stepped_by, is_free, bound, constants_of, own_place, place_of, width_at, is_as_wide, assigned}
-use Rattle.mage_unroll.specs.Statements.{Act, all_acts, entering, leaving, in_scope, length_at, named_scalar, named_array, worker_in, first_token, turn, turns, distance, holds, condition, branch, stmt_layer, executed}
-use Rattle.mage_unroll.specs.Unrolled.{own_instrs}
+use Rattle.mage_constants.specs.Ranges.{number_below, distance, holds}
+use Rattle.mage_unroll.specs.Statements.{Act, all_acts, entering, leaving, in_scope, length_at, named_scalar, named_array, first_token, turn, turns, condition, branch, stmt_layer, executed}
+use Rattle.mage_linked.specs.Emission.{own_instrs}
 use Rattle.mage_unroll.proofs.SoundEffects.{follows_output, bound_variable, input_of-Well, moved-Well, assigned-Well}
 use Rattle.mage_unroll.proofs.SoundExpressions.{variable_of-Law}
 use Rattle.mage_unroll.proofs.SoundNames.{entered-Means, left-Means}
 use Rattle.mage_unroll.proofs.SoundPlaces.{AreItems-replicate, place_of-Held, own_place-is, same_width, IsWidth-at}
-use Rattle.mage_unroll.proofs.SoundResults.{below_from_test, cond_some, then_ok, same_Ok, or_fault_ok}
+use Rattle.mage_chains.proofs.Ends.{then_ok, same_Ok}
+use Rattle.mage_constants.proofs.Trees.{or_fault_ok}
+use Rattle.mage_constants.proofs.RangeLemmas.{number_below-is}
 use Rattle.mage_unroll.proofs.SoundStates.{IsNamed, Well, After-emitted, After-stepped, variable_before, IsNamed-Keeps, Well-bound, Well-scopes}
-
--- a worker that was chosen is one of them
-worker_in-below : (workers : ℕ) (z : ℤ) (w : ℕ) → worker_in workers z ≡ Some w → w < workers
-worker_in-below workers z w h =
-    let c = cond_some (int_le (pos 0) z && int_lt z (pos workers)) (unsigned_abs z) w h in
-    let both = and_parts (int_le (pos 0) z) (int_lt z (pos workers)) c.0 in
-    subst (λ n. n < workers) c.1 (below_from_test workers z both.0 both.1)
 
 module _ (workers : ℕ) where
   -- an act keeps each worker's list sound
@@ -41,7 +36,7 @@ module _ (workers : ℕ) where
 
   -- another worker is the current one
   Well-on : (s : State) (worker : ℕ) → worker < workers → Well workers s → Well workers (record s { worker = worker })
-  Well-on s worker below a = record { count = a.count; few = a.few; within = below; room = a.room; sound = a.sound; names = a.names }
+  Well-on s worker below a = record { count = a.count; few = a.few; within = below; room = a.room; linked = a.linked; sound = a.sound; names = a.names }
 
   -- ---- scopes, turns and branches
 
@@ -151,10 +146,10 @@ module _ (workers : ℕ) where
     layer-Law (Stmt-F.On word worker body) s s' a h =
         let b = then_ok (stepped word s) _ s' h in
         let z = then_ok (constant_of worker (constants_of b.0)) _ s' b.2 in
-        let w = then_ok (or_fault wrong.BadWorker (first_token worker) (worker_in b.0.workers z.0)) _ s' z.2 in
+        let w = then_ok (or_fault wrong.BadWorker (first_token worker) (number_below b.0.workers z.0)) _ s' z.2 in
         let after = then_ok (all_acts (map f (map base body)) (record b.0 { worker = w.0 })) _ s' w.2 in
         let a1 = Well-stepped word s b.0 a b.1 in
-        let chosen = worker_in-below b.0.workers z.0 w.0 (or_fault_ok _ (first_token worker) (worker_in b.0.workers z.0) w.0 w.1) in
+        let chosen = (number_below-is b.0.workers z.0 w.0 (or_fault_ok _ (first_token worker) (number_below b.0.workers z.0) w.0 w.1)).1 in
         let there = Well-on b.0 w.0 (subst (λ k. w.0 < k) a1.count chosen) a1 in
         let done = all-Law body (record b.0 { worker = w.0 }) after.0 there after.1 in
         subst (λ y. Well workers y) (same_Ok (record after.0 { worker = b.0.worker }) s' after.2) (Well-on after.0 b.0.worker a1.within done)
@@ -174,7 +169,7 @@ module _ (workers : ℕ) where
         let made = variable_of-Law workers e word b.0 v.0.1 v.0.0 a1 v.1 in
         let there = variable_before workers b.0 v.0.1 v.0.0 made in
         let output = instr_of op.Output v.0.0.width (v.0.0.index ∷ 0 ∷ 0 ∷ []) 0 in
-        (After-emitted workers word b.0.worker output v.0.1 s' made.after.well (follows_output (own_instrs v.0.1.program b.0.worker) v.0.0 there.width there.defines) v.2).well
+        (After-emitted workers word b.0.worker output v.0.1 s' made.after.well refl a1.within (follows_output (own_instrs v.0.1.program b.0.worker) v.0.0 there.width there.defines) v.2).well
 
   roll-Law : (Y : Type 0) (base : Y → Stmt) (law : (t : Y) → StmtLaw (executed (base t))) (e : Stmt-F Y) → StmtLaw (executed (roll-Stmt (map-Stmt Y Stmt base e)))
   unfolding executed

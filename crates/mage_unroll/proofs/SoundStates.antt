@@ -1,33 +1,35 @@
--- States of which each worker's list of instructions is sound, and of which each name stands for variables that these
--- instructions define. An instruction that is emitted keeps all of this.
-use Rattle.std.proofs.Common.{◌≡◌, ◌<◌, ◌≤◌, ◌+◌, ℕ, List, [], ◌∷◌, ◌++◌, map, length, cond, eqb, Ok, IsTrue, refl, sym, ap, ◌∙◌, subst, ⊎_elim, arith}
+-- States of which each worker's list of instructions is sound, and of which each name stands for
+-- variables that these instructions define. An instruction that is emitted keeps all of this.
+use Rattle.std.proofs.Common.{◌≡◌, ◌<◌, ◌≤◌, ◌+◌, ℕ, false, List, [], ◌∷◌, ◌++◌, map, length, cond, eqb, Ok, IsTrue, refl, sym, ap, ◌∙◌, subst, ⊎_elim, arith}
 use Rattle.std.specs.Prelude.{nat_lt, nat_le}
-use Rattle.std.specs.List.{filter}
 use Rattle.std.proofs.lemmas.Bool.{cases_eq, eq-eqb, ne_eqb, ltb-true}
-use Rattle.std.proofs.lemmas.List.{append-nil, map-append, length-map, length_push}
-use Rattle.std.proofs.lemmas.List.Elements.{filter-append}
+use Rattle.std.proofs.lemmas.List.{append-nil, append_assoc, length_push}
 use Rattle.mage_instr.specs.declared.instr.TheConstants.{NEVER}
 use Rattle.mage_instr.specs.declared.instr.Instr.{Instr}
 use Rattle.mage_instr.specs.declared.op.Op.{Op}
 use Rattle.mage_instr.specs.declared.op.Op.TheVariants as op
-use Rattle.mage_instr.specs.Opcodes.{has_result, width_of_result}
+use Rattle.mage_instr.specs.Opcodes.{greatest_width, most_workers, has_result, width_of_result}
 use Rattle.mage_instr.specs.Sound.{IsSound}
 use Rattle.mage_lex.specs.declared.token.Token.{Token}
 use Rattle.mage_scopes.specs.Scopes.{Meaning}
-use Rattle.mage_syntax.specs.Words.{bytes_of}
-use Rattle.mage_unroll.specs.declared.state.Emitted.{Emitted}
+use Rattle.mage_tree.specs.Words.{bytes_of}
+use Rattle.mage_linked.specs.declared.emitted.Emitted.{Emitted}
 use Rattle.mage_unroll.specs.declared.state.Named.{Named}
 use Rattle.mage_unroll.specs.declared.state.Named.TheVariants as named
 use Rattle.mage_unroll.specs.declared.state.Variable.{Variable}
-use Rattle.mage_unroll.specs.State.{State, stepped_by, emitted, defined, count_of, bound}
-use Rattle.mage_unroll.specs.Unrolled.{own_instrs}
+use Rattle.mage_linked.specs.Emission.{own_instrs, count_of}
+use Rattle.mage_linked.specs.Linked.{is_transfer, IsTransfer, AreLinked}
+use Rattle.mage_linked.proofs.EmissionLemmas.{own_instrs-append, length-own_instrs}
+use Rattle.mage_linked.proofs.LinkedLemmas.{AreLinked-push, AreLinked-transfer}
+use Rattle.mage_unroll.specs.Limits.{MOST_STEPS, MOST_INSTRS}
+use Rattle.mage_unroll.specs.State.{State, stepped_by, emitted, defined, bound}
 use Rattle.mage_unroll.proofs.Counting.{count_of-le}
 use Rattle.mage_unroll.proofs.SoundLists.{DefinesAt, CanFollow, DefinesAt-append, DefinesAt-last, IsSound-push}
 use Rattle.mage_unroll.proofs.SoundNames.{EachMeans, with_name-Means, weaker-Means}
-use Rattle.mage_unroll.proofs.SoundResults.{cond_ok, then_ok, same_Ok}
+use Rattle.mage_chains.proofs.Ends.{cond_ok, then_ok, same_Ok}
 
 abbrev pub IsWidth : ℕ → Type 0
-IsWidth width = (1 ≤ width) × (width ≤ 64)
+IsWidth width = (1 ≤ width) × (width ≤ greatest_width)
 
 -- a variable of a worker
 pub record IsVariable (program : List Emitted) (worker : ℕ) (v : Variable) : Type 0 where
@@ -47,9 +49,10 @@ IsNamed workers program (named.Array array) = (array.worker < workers) × IsWidt
 
 pub record Well (workers : ℕ) (s : State) : Type 0 where
   pub count : s.workers ≡ workers
-  pub few : workers ≤ 16
+  pub few : workers ≤ most_workers
   pub within : s.worker < workers
-  pub room : length s.program ≤ 2000000
+  pub room : length s.program ≤ MOST_INSTRS
+  pub linked : AreLinked workers s.program
   pub sound : (worker : ℕ) → IsSound (own_instrs s.program worker)
   pub names : EachMeans Named (IsNamed workers s.program) s.scopes
 
@@ -71,11 +74,6 @@ pub record Makes (workers : ℕ) (s s' : State) (v : Variable) : Type 0 where
 
 -- ---- the instructions of a worker
 
-own_instrs-append : (p q : List Emitted) (worker : ℕ) → own_instrs (p ++ q) worker ≡ own_instrs p worker ++ own_instrs q worker
-own_instrs-append p q worker =
-    let own = λ (e : Emitted). eqb e.worker worker in
-    ap (map (λ (e : Emitted). e.instr)) (filter-append own p q) ∙ map-append (λ (e : Emitted). e.instr) (filter own p) (filter own q)
-
 own_push : (p : List Emitted) (e : Emitted) → own_instrs (p ++ e ∷ []) e.worker ≡ own_instrs p e.worker ++ e.instr ∷ []
 own_push p e =
     own_instrs-append p (e ∷ []) e.worker
@@ -87,17 +85,14 @@ own_push-other p e worker h =
     ∙ ap (λ test. own_instrs p worker ++ map (λ (x : Emitted). x.instr) (cond test (e ∷ []) [])) (ne_eqb e.worker worker h)
     ∙ append-nil (own_instrs p worker)
 
-length_own : (p : List Emitted) (worker : ℕ) → length (own_instrs p worker) ≡ count_of worker p
-length_own p worker = length-map (filter (λ (e : Emitted). eqb e.worker worker) p) (λ (e : Emitted). e.instr)
-
 Keeps-push : (p : List Emitted) (e : Emitted) → Keeps p (p ++ e ∷ [])
 Keeps-push p e worker index width h =
     subst (λ l. DefinesAt l index width) (sym (own_instrs-append p (e ∷ []) worker)) (DefinesAt-append (own_instrs p worker) (own_instrs (e ∷ []) worker) index width h)
 
-own_few : (p : List Emitted) (worker : ℕ) → length p < 2000000 → length (own_instrs p worker) < NEVER
-own_few p worker few = omega (arith, length_own p worker, count_of-le worker p)
+own_few : (p : List Emitted) (worker : ℕ) → length p < MOST_INSTRS → length (own_instrs p worker) < NEVER
+own_few p worker few = omega (arith, length-own_instrs p worker, count_of-le worker p)
 
-sound_push : (p : List Emitted) (e : Emitted) (worker : ℕ) → length p < 2000000 → IsSound (own_instrs p worker) → CanFollow (own_instrs p e.worker) e.instr → IsSound (own_instrs (p ++ e ∷ []) worker)
+sound_push : (p : List Emitted) (e : Emitted) (worker : ℕ) → length p < MOST_INSTRS → IsSound (own_instrs p worker) → CanFollow (own_instrs p e.worker) e.instr → IsSound (own_instrs (p ++ e ∷ []) worker)
 sound_push p e worker few sound h = ⊎_elim here there (cases_eq e.worker worker)
   where
     here : e.worker ≡ worker → IsSound (own_instrs (p ++ e ∷ []) worker)
@@ -126,11 +121,16 @@ IsNamed-Keeps workers before now (named.Array array) kept h = (h.0, h.1, AreItem
 -- ---- emission
 
 -- the state once an instruction is emitted
-abbrev after_emission : (worker : ℕ) → Instr → State → State
+abbrev pub after_emission : (worker : ℕ) → Instr → State → State
 after_emission worker i s = record s { program = s.program ++ record { worker = worker; instr = i } ∷ [] }
 
-After-emission : (workers worker : ℕ) (i : Instr) (s : State) → Well workers s → length s.program < 2000000 → CanFollow (own_instrs s.program worker) i → After workers s (after_emission worker i s)
-After-emission workers worker i s a few h =
+-- the variable that an instruction of a worker defines behind these
+abbrev pub new_variable : (worker : ℕ) → Instr → List Emitted → Variable
+new_variable worker i program = record { width = width_of_result i.op i.width; index = count_of worker program }
+
+-- an instruction of a worker that speaks of no other
+After-emission : (workers worker : ℕ) (i : Instr) (s : State) → Well workers s → length s.program < MOST_INSTRS → is_transfer i.op ≡ false → worker < workers → CanFollow (own_instrs s.program worker) i → After workers s (after_emission worker i s)
+After-emission workers worker i s a few alone below h =
     let e : Emitted = record { worker = worker; instr = i } in
     let now = s.program ++ e ∷ [] in
     let kept = Keeps-push s.program e in
@@ -141,6 +141,7 @@ After-emission workers worker i s a few h =
         few = a.few;
         within = a.within;
         room = omega (arith, length_push s.program e);
+        linked = AreLinked-push workers s.program e a.linked alone below;
         sound = λ w. sound_push s.program e w few (a.sound w) h;
         names = names;
       };
@@ -149,39 +150,74 @@ After-emission workers worker i s a few h =
       same_scopes = refl;
     }
 
-emitted_is : (word : Token) (worker : ℕ) (i : Instr) (s s' : State) → emitted word worker i s ≡ Ok s' → (length s.program < 2000000) × (after_emission worker i s ≡ s')
-emitted_is word worker i s s' h =
-    let c = cond_ok (nat_lt (length s.program) 2000000) (after_emission worker i s) s' _ h in
-    (ltb-true (length s.program) 2000000 c.0, c.1)
+-- what one worker sends to another, and its receiving
+pub After-transfer : (workers : ℕ) (send recv : Emitted) (s : State) → Well workers s → length s.program + 1 < MOST_INSTRS → IsTransfer workers send recv → CanFollow (own_instrs s.program send.worker) send.instr → CanFollow (own_instrs (s.program ++ send ∷ []) recv.worker) recv.instr → After workers s (record s { program = (s.program ++ send ∷ []) ++ recv ∷ [] })
+After-transfer workers send recv s a few is h k =
+    let p = s.program in
+    let p1 = p ++ send ∷ [] in
+    let p2 = p1 ++ recv ∷ [] in
+    let kept : Keeps p p2 = λ w i width x. Keeps-push p1 recv w i width (Keeps-push p send w i width x) in
+    let room : length p < MOST_INSTRS = omega arith in
+    let room1 : length p1 < MOST_INSTRS = omega (arith, length_push p send) in
+    let linked = subst (λ (l : List Emitted). AreLinked workers l) (sym (append_assoc p (send ∷ []) (recv ∷ []))) (AreLinked-transfer workers p send recv a.linked is) in
+    record {
+      well = record {
+        count = a.count;
+        few = a.few;
+        within = a.within;
+        room = omega (arith, length_push p1 recv);
+        linked = linked;
+        sound = λ w. sound_push p1 recv w room1 (sound_push p send w room (a.sound w) h) k;
+        names = weaker-Means Named (IsNamed workers p) (IsNamed workers p2) (λ x. IsNamed-Keeps workers p p2 x kept) s.scopes a.names;
+      };
+      kept = kept;
+      same_worker = refl;
+      same_scopes = refl;
+    }
 
-pub After-emitted : (workers : ℕ) (word : Token) (worker : ℕ) (i : Instr) (s s' : State) → Well workers s → CanFollow (own_instrs s.program worker) i → emitted word worker i s ≡ Ok s' → After workers s s'
-After-emitted workers word worker i s s' a h e =
+pub emitted_is : (word : Token) (worker : ℕ) (i : Instr) (s s' : State) → emitted word worker i s ≡ Ok s' → (length s.program < MOST_INSTRS) × (after_emission worker i s ≡ s')
+emitted_is word worker i s s' h =
+    let c = cond_ok (nat_lt (length s.program) MOST_INSTRS) (after_emission worker i s) s' _ h in
+    (ltb-true (length s.program) MOST_INSTRS c.0, c.1)
+
+pub After-emitted : (workers : ℕ) (word : Token) (worker : ℕ) (i : Instr) (s s' : State) → Well workers s → is_transfer i.op ≡ false → worker < workers → CanFollow (own_instrs s.program worker) i → emitted word worker i s ≡ Ok s' → After workers s s'
+After-emitted workers word worker i s s' a alone below h e =
     let is = emitted_is word worker i s s' e in
-    subst (λ x. After workers s x) is.1 (After-emission workers worker i s a is.0 h)
+    subst (λ x. After workers s x) is.1 (After-emission workers worker i s a is.0 alone below h)
 
 IsWidth-result : (o : Op) (width : ℕ) → IsWidth width → IsWidth (width_of_result o width)
 IsWidth-result op.Eq width h = (omega arith, omega arith)
 IsWidth-result op.Lt width h = (omega arith, omega arith)
 IsWidth-result _ width h = h
 
-pub Makes-defined : (workers : ℕ) (word : Token) (i : Instr) (s s' : State) (v : Variable) → Well workers s → CanFollow (own_instrs s.program s.worker) i → IsTrue (has_result i.op) → defined word i s ≡ Ok (v, s') → Makes workers s s' v
-Makes-defined workers word i s s' v a h result e =
-    let b = then_ok (emitted word s.worker i s) _ (v, s') e in
-    let is = emitted_is word s.worker i s b.0 b.1 in
+-- the variable that an instruction defines is one of its worker
+pub IsVariable-new : (program : List Emitted) (worker : ℕ) (i : Instr) → CanFollow (own_instrs program worker) i → IsTrue (has_result i.op) → IsVariable (program ++ record { worker = worker; instr = i } ∷ []) worker (new_variable worker i program)
+IsVariable-new program worker i h result =
     let width = width_of_result i.op i.width in
-    let x : Emitted = record { worker = s.worker; instr = i } in
-    let now = s.program ++ x ∷ [] in
-    let last = DefinesAt-last (own_instrs s.program s.worker) i width (result, refl) in
-    let at = subst (λ n. DefinesAt (own_instrs s.program s.worker ++ i ∷ []) n width) (length_own s.program s.worker) last in
-    let there = subst (λ l. DefinesAt l (count_of s.worker s.program) width) (sym (own_push s.program x)) at in
-    let variable : Variable = record { width = width; index = count_of s.worker s.program } in
-    let made : Makes workers s (after_emission s.worker i s) variable = record {
-      after = After-emission workers s.worker i s a is.0 h;
-      variable = record { width = IsWidth-result i.op i.width (h.width_ok.0, h.width_ok.1); defines = there };
+    let e : Emitted = record { worker = worker; instr = i } in
+    let last = DefinesAt-last (own_instrs program worker) i width (result, refl) in
+    let at = subst (λ n. DefinesAt (own_instrs program worker ++ i ∷ []) n width) (length-own_instrs program worker) last in
+    record {
+      width = IsWidth-result i.op i.width (h.width_ok.0, h.width_ok.1);
+      defines = subst (λ l. DefinesAt l (count_of worker program) width) (sym (own_push program e)) at;
+    }
+
+-- an instruction is emitted, and its variable is the new one
+pub defined_is : (word : Token) (i : Instr) (s s' : State) (v : Variable) → defined word i s ≡ Ok (v, s') → (length s.program < MOST_INSTRS) × (after_emission s.worker i s ≡ s') × (new_variable s.worker i s.program ≡ v)
+defined_is word i s s' v h =
+    let step = then_ok (emitted word s.worker i s) _ (v, s') h in
+    let is = emitted_is word s.worker i s step.0 step.1 in
+    let same = same_Ok _ (v, s') step.2 in
+    (is.0, is.1 ∙ ap (λ (p : Variable × State). p.1) same, ap (λ (p : Variable × State). p.0) same)
+
+pub Makes-defined : (workers : ℕ) (word : Token) (i : Instr) (s s' : State) (v : Variable) → Well workers s → is_transfer i.op ≡ false → CanFollow (own_instrs s.program s.worker) i → IsTrue (has_result i.op) → defined word i s ≡ Ok (v, s') → Makes workers s s' v
+Makes-defined workers word i s s' v a alone h result e =
+    let is = defined_is word i s s' v e in
+    let made : Makes workers s (after_emission s.worker i s) (new_variable s.worker i s.program) = record {
+      after = After-emission workers s.worker i s a is.0 alone a.within h;
+      variable = IsVariable-new s.program s.worker i h result;
     } in
-    let same = same_Ok (variable, b.0) (v, s') b.2 in
-    let made' : Makes workers s b.0 variable = subst (λ y. Makes workers s y variable) is.1 made in
-    subst (λ (p : Variable × State). Makes workers s p.1 p.0) same made'
+    subst (λ x. Makes workers s s' x) is.2 (subst (λ y. Makes workers s y (new_variable s.worker i s.program)) is.1 made)
 
 -- ---- states one after the other
 
@@ -208,12 +244,12 @@ variable_before workers s s' v h = subst (λ w. IsVariable s'.program w v) h.aft
 
 pub After-stepped : (workers n : ℕ) (word : Token) (s s' : State) → Well workers s → stepped_by n word s ≡ Ok s' → After workers s s'
 After-stepped workers n word s s' a h =
-    let c = cond_ok (nat_le (s.steps + n) 16000000) (record s { steps = s.steps + n }) s' _ h in
-    let well : Well workers (record s { steps = s.steps + n }) = record { count = a.count; few = a.few; within = a.within; room = a.room; sound = a.sound; names = a.names } in
+    let c = cond_ok (nat_le (s.steps + n) MOST_STEPS) (record s { steps = s.steps + n }) s' _ h in
+    let well : Well workers (record s { steps = s.steps + n }) = record { count = a.count; few = a.few; within = a.within; room = a.room; linked = a.linked; sound = a.sound; names = a.names } in
     subst (λ x. After workers s x) c.1 (record { well = well; kept = λ w i width x. x; same_worker = refl; same_scopes = refl })
 
 pub Well-scopes : (workers : ℕ) (s : State) (scopes : List (Meaning Named)) → Well workers s → EachMeans Named (IsNamed workers s.program) scopes → Well workers (record s { scopes = scopes })
-Well-scopes workers s scopes a h = record { count = a.count; few = a.few; within = a.within; room = a.room; sound = a.sound; names = h }
+Well-scopes workers s scopes a h = record { count = a.count; few = a.few; within = a.within; room = a.room; linked = a.linked; sound = a.sound; names = h }
 
 pub Well-bound : (workers : ℕ) (s : State) (name : Token) (x : Named) → Well workers s → IsNamed workers s.program x → Well workers (bound name x s)
 Well-bound workers s name x a h = Well-scopes workers s _ a (with_name-Means Named (IsNamed workers s.program) s.scopes (bytes_of name) x h a.names)

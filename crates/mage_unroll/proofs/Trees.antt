@@ -4,29 +4,20 @@ use Rattle.std.specs.Option.{option_map}
 use Rattle.mage_lex.specs.declared.fault.LangFault.{LangFault}
 use Rattle.mage_lex.specs.declared.fault.LangFault.TheVariants as faults
 use Rattle.mage_lex.specs.declared.token.Token.{Token}
-use Rattle.mage_syntax.specs.declared.tree.ConstExpr.{ConstExpr}
-use Rattle.mage_syntax.specs.declared.tree.ConstExpr.TheVariants as constant
-use Rattle.mage_syntax.specs.declared.tree.ConstExpr.TheOpen.{ConstExpr-F}
-use Rattle.mage_syntax.specs.declared.tree.ConstExpr.TheFolds.{fold-roll-ConstExpr}
-use Rattle.mage_syntax.specs.declared.tree.Expr.{Expr}
-use Rattle.mage_syntax.specs.declared.tree.Expr.TheVariants as expr
-use Rattle.mage_syntax.specs.declared.tree.Expr.TheOpen.{Expr-F}
-use Rattle.mage_syntax.specs.declared.tree.Expr.TheFolds.{fold-roll-Expr}
-use Rattle.mage_unroll.specs.Constants.{Constants, ConstMeaning, ◌>>=◌, const_chain, const_layer, constant_of}
+use Rattle.mage_tree.specs.declared.tree.ConstExpr.{ConstExpr}
+use Rattle.mage_tree.specs.declared.tree.Expr.{Expr}
+use Rattle.mage_tree.specs.declared.tree.Expr.TheVariants as expr
+use Rattle.mage_tree.specs.declared.tree.Expr.TheOpen.{Expr-F}
+use Rattle.mage_tree.specs.declared.tree.Expr.TheFolds.{fold-roll-Expr}
+use Rattle.mage_chains.specs.Chains.{◌>>=◌}
 use Rattle.mage_unroll.specs.Expressions.{ExprMeaning, chained, expr_layer, variable_of}
-use Rattle.mage_syntax.specs.declared.tree.Stmt.{Stmt}
-use Rattle.mage_syntax.specs.declared.tree.Stmt.TheVariants as stmt
-use Rattle.mage_syntax.specs.declared.tree.Stmt.TheOpen.{Stmt-F}
-use Rattle.mage_syntax.specs.declared.tree.Stmt.TheFolds.{fold-roll-Stmt}
-use Rattle.mage_unroll.specs.Answer.{Fails}
+use Rattle.mage_tree.specs.declared.tree.Stmt.{Stmt}
+use Rattle.mage_tree.specs.declared.tree.Stmt.TheVariants as stmt
+use Rattle.mage_tree.specs.declared.tree.Stmt.TheOpen.{Stmt-F}
+use Rattle.mage_tree.specs.declared.tree.Stmt.TheFolds.{fold-roll-Stmt}
+use Rattle.mage_constants.specs.Answer.{Fails}
 use Rattle.mage_unroll.specs.State.{State}
 use Rattle.mage_unroll.specs.Statements.{Act, condition, branch, stmt_layer, executed}
-
-pub constant_of-chain : (names : Constants) (first : ConstExpr) (rest : List (Token × ConstExpr)) → constant_of (constant.Chain first rest) names ≡ (constant_of first names >>= const_chain (map (λ term. (term.0, constant_of term.1)) rest) names)
-unfolding constant_of const_layer
-constant_of-chain names first rest =
-    ap (λ (e : ConstExpr). constant_of e names) (sym (constant.rolls-Chain first rest))
-    ∙ ap (λ (f : ConstMeaning). f names) (fold-roll-ConstExpr ConstMeaning const_layer (ConstExpr-F.Chain first rest))
 
 pub variable_of-chain : (word : Token) (s : State) (first : Expr) (rest : List (Token × Expr)) → variable_of (expr.Chain first rest) word s ≡ (variable_of first word s >>= λ value. chained (map (λ term. (term.0, variable_of term.1)) rest) word value.0 value.1)
 unfolding variable_of expr_layer

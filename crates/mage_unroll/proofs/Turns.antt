@@ -7,8 +7,9 @@ use Rattle.mage_instr.specs.declared.op.Op.TheVariants as op
 use Rattle.mage_lex.specs.declared.token.Token.{Token}
 use Rattle.mage_unroll.specs.declared.state.Variable.{Variable}
 use Rattle.mage_unroll.specs.State.{State, stepped, instr_of, defined}
-use Rattle.mage_unroll.specs.Answer.{Fails}
-use Rattle.mage_unroll.specs.Statements.{Act, party_of, inputs, turn, turns, distance}
+use Rattle.mage_constants.specs.Answer.{Fails}
+use Rattle.mage_constants.specs.Ranges.{distance}
+use Rattle.mage_unroll.specs.Statements.{Act, party_of, inputs, turn, turns}
 
 pub inputs-more : (n m : ℕ) (word party : Token) (width : ℕ) (items more : List ℕ) (s begun after : State) (value : Variable) → n ≡ suc m → stepped word s ≡ Ok begun → defined word (instr_of op.Input width (0 ∷ 0 ∷ 0 ∷ []) (party_of party)) begun ≡ Ok (value, after) → more ≡ items ++ value.index ∷ [] → inputs n word party width items s ≡ inputs m word party width more after
 inputs-more n m word party width items more s begun after value is step define push = rw (is, step, define, push) refl

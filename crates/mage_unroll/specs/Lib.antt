@@ -1,5 +1,4 @@
-pub mod Constants
-pub mod Answer
+pub mod Limits
 pub mod Kinds
 pub mod State
 pub mod Expressions

@@ -1,6 +1,10 @@
--- What is kept while a source is executed once: the current worker, the scopes, and the program so far.
-use Rattle.std.specs.Prelude.{ℕ, ◌+◌, ◌==◌, ◌&&◌, List, [], ◌∷◌, ◌++◌, ℤ, pos, int_le, int_lt, unsigned_abs, length, slice_get, set, nat_lt, nat_le, Option, Some, None, is_some, Result, Ok, Err, if◌then◌else◌}
-use Rattle.std.specs.List.{filter}
+-- What is kept while a source is executed once: the current worker, the scopes, and the program so
+-- far.
+use Rattle.std.specs.Prelude.{ℕ, ◌+◌, ◌==◌, List, [], ◌∷◌, ◌++◌, ℤ, length, slice_get, set, nat_lt, nat_le, Option, Some, None, is_some, Result, Ok, Err, if◌then◌else◌}
+use Rattle.mage_chains.specs.Chains.{◌>>=◌}
+use Rattle.mage_constants.specs.Answer.{fault_at, or_fault}
+use Rattle.mage_constants.specs.Constants.{Constants, constant_of}
+use Rattle.mage_constants.specs.Ranges.{number_below}
 use Rattle.mage_instr.specs.Opcodes.{width_of_result}
 use Rattle.mage_instr.specs.declared.instr.Instr.{Instr}
 use Rattle.mage_instr.specs.declared.op.Op.{Op}
@@ -8,17 +12,18 @@ use Rattle.mage_lex.specs.declared.fault.LangKind.TheVariants as wrong
 use Rattle.mage_lex.specs.declared.fault.LangFault.{LangFault}
 use Rattle.mage_lex.specs.declared.token.Token.{Token}
 use Rattle.mage_scopes.specs.Scopes.{Meaning, found, with_name, replaced}
-use Rattle.mage_syntax.specs.Words.{bytes_of, width_of_type}
-use Rattle.mage_syntax.specs.declared.tree.ConstExpr.{ConstExpr}
-use Rattle.mage_syntax.specs.declared.tree.Item.{Item}
+use Rattle.mage_tree.specs.Words.{bytes_of, width_of_type}
+use Rattle.mage_tree.specs.declared.tree.ConstExpr.{ConstExpr}
+use Rattle.mage_tree.specs.declared.tree.Item.{Item}
 use Rattle.mage_unroll.specs.declared.state.Array.{Array}
-use Rattle.mage_unroll.specs.declared.state.Emitted.{Emitted}
+use Rattle.mage_linked.specs.Emission.{count_of}
+use Rattle.mage_linked.specs.declared.emitted.Emitted.{Emitted}
 pub use Rattle.mage_unroll.specs.declared.state.Held.{Held}
 use Rattle.mage_unroll.specs.declared.state.Named.{Named}
 use Rattle.mage_unroll.specs.declared.state.Named.TheVariants as named
 use Rattle.mage_unroll.specs.declared.state.Scalar.{Scalar}
 use Rattle.mage_unroll.specs.declared.state.Variable.{Variable}
-use Rattle.mage_unroll.specs.Constants.{◌>>=◌, fault_at, or_fault, Constants, constant_of}
+use Rattle.mage_unroll.specs.Limits.{MOST_STEPS, MOST_INSTRS}
 
 -- what is kept
 pub record State : Type 0 where
@@ -35,40 +40,43 @@ pub record State : Type 0 where
 
 -- ---- steps and instructions; `word` is the first token of the statement
 
--- so many steps more, of at most 16,000,000
+-- so many steps more, where there may be so many
 abbrev pub stepped_by : ℕ → (word : Token) → State → Result State LangFault
-stepped_by n word s = if nat_le (s.steps + n) 16000000 then Ok (record s { steps = s.steps + n }) else Err (fault_at wrong.TooLong word)
+stepped_by n word s =
+    if nat_le (s.steps + n) MOST_STEPS then Ok (record s { steps = s.steps + n })
+    else Err (fault_at wrong.TooLong word)
 
 -- one step more
 abbrev pub stepped : (word : Token) → State → Result State LangFault
 stepped word s = stepped_by 1 word s
 
--- one instruction more on a worker, of at most 2,000,000
+-- one instruction more on a worker, where there may be one
 abbrev pub emitted : (word : Token) → (worker : ℕ) → Instr → State → Result State LangFault
 emitted word worker instr s =
-    if nat_lt (length s.program) 2000000
+    if nat_lt (length s.program) MOST_INSTRS
     then Ok (record s { program = s.program ++ record { worker = worker; instr = instr } ∷ [] })
     else Err (fault_at wrong.TooLong word)
-
--- how many instructions a worker has
-abbrev pub count_of : (worker : ℕ) → List Emitted → ℕ
-count_of worker program = length (filter (λ e. e.worker == worker) program)
 
 -- the instruction of these parts
 abbrev pub instr_of : Op → (width : ℕ) → (args : List ℕ) → (imm : ℕ) → Instr
 instr_of op width args imm = record { op = op; width = width; args = args; imm = imm }
 
--- the variable that an instruction of the current worker defines, and what is kept once it is emitted
+-- the variable that an instruction of the current worker defines, and what is kept once it is
+-- emitted
 abbrev pub defined : (word : Token) → Instr → State → Result (Variable × State) LangFault
 defined word instr s = do
   after ← emitted word s.worker instr s
-  Ok (record { width = width_of_result instr.op instr.width; index = count_of s.worker s.program }, after)
+  Ok (
+    record { width = width_of_result instr.op instr.width; index = count_of s.worker s.program },
+    after,
+  )
 
 -- ---- names
 
 -- the name isn't visible yet
 abbrev pub is_free : Token → State → Result (Unit {0}) LangFault
-is_free name s = if is_some (found s.scopes (bytes_of name)) then Err (fault_at wrong.Duplicate name) else Ok tt
+is_free name s =
+    if is_some (found s.scopes (bytes_of name)) then Err (fault_at wrong.Duplicate name) else Ok tt
 
 -- the name stands for this in the innermost scope
 abbrev pub bound : Token → Named → State → State
@@ -105,11 +113,15 @@ held_scalar scalar = record { worker = scalar.worker; variable = scalar.variable
 
 -- an item of an array as what a place holds
 abbrev pub held_item : Array → (position index : ℕ) → Held
-held_item array position index = record { worker = array.worker; variable = record { width = array.width; index = index }; position = Some position }
+held_item array position index = record {
+  worker = array.worker;
+  variable = record { width = array.width; index = index };
+  position = Some position;
+}
 
 -- the place in an array that an index stands for
 abbrev pub position_of : ℤ → Array → Option ℕ
-position_of index array = if int_le (pos 0) index && int_lt index (pos (length array.items)) then Some (unsigned_abs index) else None
+position_of index array = number_below (length array.items) index
 
 -- an item of an array, by its index
 unfoldable pub item_of : Token → ConstExpr → Array → State → Result Held LangFault
@@ -119,7 +131,8 @@ item_of name index array s = do
   variable ← or_fault wrong.IndexOut name (slice_get array.items position)
   Ok (held_item array position variable)
 
--- a place: a name that is unknown comes before the faults of its index, and these before an index that is out
+-- a place: a name that is unknown comes before the faults of its index, and these before an index
+-- that is out
 unfoldable pub place_with : Token → Option (Token × ConstExpr) → State → Result Held LangFault
 place_with name None s = do
   scalar ← or_fault wrong.UnknownName name (as_scalar (found s.scopes (bytes_of name)))
@@ -140,14 +153,18 @@ own_place item s = do
 
 -- the same name or item, with its width and worker, and another variable
 abbrev pub rebound : Option ℕ → (index : ℕ) → Named → Named
-rebound None index (named.Scalar scalar) = named.Scalar (record scalar { variable = record { width = scalar.variable.width; index = index } })
-rebound (Some position) index (named.Array array) = named.Array (record array { items = set array.items position index })
+rebound None index (named.Scalar scalar) =
+    let variable : Variable = record { width = scalar.variable.width; index = index } in
+    named.Scalar (record scalar { variable = variable })
+rebound (Some position) index (named.Array array) =
+    named.Array (record array { items = set array.items position index })
 rebound position index other = other
 
 -- a name, where it stands for something, is bound anew
 abbrev pub rebound_name : Option Named → (name : Token) → Option ℕ → (index : ℕ) → State → State
 rebound_name None name position index s = s
-rebound_name (Some old) name position index s = record s { scopes = replaced s.scopes (bytes_of name) (rebound position index old) }
+rebound_name (Some old) name position index s =
+    record s { scopes = replaced s.scopes (bytes_of name) (rebound position index old) }
 
 -- the place is bound anew
 abbrev pub assigned : (name : Token) → Option ℕ → (index : ℕ) → State → State
@@ -161,4 +178,5 @@ width_at ty = or_fault wrong.BadWidth ty (width_of_type (bytes_of ty))
 
 -- two widths are the same
 abbrev pub is_as_wide : Token → ℕ → ℕ → Result (Unit {0}) LangFault
-is_as_wide token width other = if width == other then Ok tt else Err (fault_at wrong.WidthDiffers token)
+is_as_wide token width other =
+    if width == other then Ok tt else Err (fault_at wrong.WidthDiffers token)

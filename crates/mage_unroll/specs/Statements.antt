@@ -1,25 +1,26 @@
--- The execution of statements, with their first fault. What a statement declares is checked where it stands among
--- its tokens, and its step comes before its other checks.
-use Rattle.std.specs.Prelude.{ℕ, zero, suc, ◌==◌, ◌&&◌, Bool, true, false, List, [], ◌∷◌, ◌++◌, replicate, ℤ, pos, ◌+ℤ◌, ◌-ℤ◌, int_le, int_lt, unsigned_abs, Option, Some, None, Result, Ok, if◌then◌else◌}
+-- The execution of statements, with their first fault. What a statement declares is checked where
+-- it stands among its tokens, and its step comes before its other checks.
+use Rattle.std.specs.Prelude.{ℕ, zero, suc, Bool, true, false, List, [], ◌∷◌, ◌++◌, replicate, codes, ℤ, pos, ◌+ℤ◌, ◌==◌, Option, Some, None, Result, Ok, if◌then◌else◌}
+use Rattle.std.specs.Str.{bytes_eq}
+use Rattle.mage_chains.specs.Chains.{◌>>=◌}
+use Rattle.mage_constants.specs.Answer.{or_fault}
+use Rattle.mage_constants.specs.Constants.{constant_of}
+use Rattle.mage_constants.specs.Ranges.{number_below, size_in, distance, holds}
 use Rattle.mage_instr.specs.declared.op.Op.TheVariants as op
 use Rattle.mage_lex.specs.declared.fault.LangKind.TheVariants as wrong
 use Rattle.mage_lex.specs.declared.fault.LangFault.{LangFault}
-use Rattle.mage_lex.specs.declared.symbols.TheConstants.{EQUALS}
 use Rattle.mage_lex.specs.declared.token.Token.{Token}
 use Rattle.mage_scopes.specs.Scopes.{entered, left}
-use Rattle.mage_syntax.specs.declared.tree.ConstExpr.{ConstExpr}
-use Rattle.mage_syntax.specs.declared.tree.ConstExpr.TheOpen.{ConstExpr-F}
-use Rattle.mage_syntax.specs.declared.tree.ConstExpr.TheFolds.{fold-ConstExpr}
-use Rattle.mage_syntax.specs.declared.tree.Stmt.{Stmt}
-use Rattle.mage_syntax.specs.declared.tree.Stmt.TheOpen.{Stmt-F}
-use Rattle.mage_syntax.specs.declared.tree.Stmt.TheFolds.{fold-Stmt}
-use Rattle.mage_syntax.specs.Words.{bytes_of}
-use Rattle.std.specs.Str.{bytes_eq}
-use Rattle.std.specs.Prelude.{codes}
+use Rattle.mage_tree.specs.declared.tree.ConstExpr.{ConstExpr}
+use Rattle.mage_tree.specs.declared.tree.ConstExpr.TheOpen.{ConstExpr-F}
+use Rattle.mage_tree.specs.declared.tree.ConstExpr.TheFolds.{fold-ConstExpr}
+use Rattle.mage_tree.specs.declared.tree.Stmt.{Stmt}
+use Rattle.mage_tree.specs.declared.tree.Stmt.TheOpen.{Stmt-F}
+use Rattle.mage_tree.specs.declared.tree.Stmt.TheFolds.{fold-Stmt}
+use Rattle.mage_tree.specs.Words.{bytes_of}
 use Rattle.mage_unroll.specs.declared.state.Named.{Named}
 use Rattle.mage_unroll.specs.declared.state.Named.TheVariants as named
 use Rattle.mage_unroll.specs.declared.state.Variable.{Variable}
-use Rattle.mage_unroll.specs.Constants.{◌>>=◌, or_fault, row_of, constant_of}
 use Rattle.mage_unroll.specs.State.{State, Held, stepped, stepped_by, emitted, instr_of, defined, is_free, bound, constants_of, place_of, own_place, assigned, width_at, is_as_wide}
 use Rattle.mage_unroll.specs.Expressions.{Evaluated, variable_of}
 
@@ -48,15 +49,11 @@ in_scope act s = do
   after ← act (entering s)
   Ok (leaving after)
 
--- a number as the length of an array
-abbrev pub length_in : ℤ → Option ℕ
-length_in z = if int_le (pos 0) z then Some (unsigned_abs z) else None
-
 -- the length of an array, with its bracket
 unfoldable pub length_at : Token × ConstExpr → State → Result ℕ LangFault
 length_at size s = do
   value ← constant_of size.1 (constants_of s)
-  or_fault wrong.ConstFault size.0 (length_in value)
+  or_fault wrong.ConstFault size.0 (size_in value)
 
 -- a name of a scalar
 abbrev pub named_scalar : (worker : ℕ) → Variable → Named
@@ -64,14 +61,16 @@ named_scalar worker variable = named.Scalar (record { worker = worker; variable 
 
 -- a name of an array
 abbrev pub named_array : (worker width : ℕ) → List ℕ → Named
-named_array worker width items = named.Array (record { worker = worker; width = width; items = items })
+named_array worker width items =
+    named.Array (record { worker = worker; width = width; items = items })
 
 -- 0 for the garbler, 1 for the evaluator
 abbrev pub party_of : Token → ℕ
 party_of token = if bytes_eq (bytes_of token) (codes "evaluator") then 1 else 0
 
 -- inputs of a width, each after a step of its own; `items` are those so far
-abbrev pub inputs : ℕ → (word party : Token) → (width : ℕ) → (items : List ℕ) → State → Result (List ℕ × State) LangFault
+abbrev pub inputs : ℕ → (word party : Token) → (width : ℕ) → (items : List ℕ) →
+    State → Result (List ℕ × State) LangFault
 inputs zero word party width items s = Ok (items, s)
 inputs (suc n) word party width items s = do
   after ← stepped word s
@@ -91,10 +90,12 @@ input_of (Some size) word party name width s = do
 -- what another worker holds, sent to the current one
 unfoldable pub transferred : (word : Token) → Held → State → Evaluated
 transferred word held s = do
-  sent ← emitted word held.worker (instr_of op.Send held.variable.width (held.variable.index ∷ 0 ∷ 0 ∷ []) s.worker) s
+  sent ← emitted word held.worker
+      (instr_of op.Send held.variable.width (held.variable.index ∷ 0 ∷ 0 ∷ []) s.worker) s
   defined word (instr_of op.Recv held.variable.width (0 ∷ 0 ∷ 0 ∷ []) held.worker) sent
 
--- a place is bound to a name, on the current worker: where it stands on another, its value is sent from there
+-- a place is bound to a name, on the current worker: where it stands on another, its value is sent
+-- from there
 unfoldable pub moved : (word name : Token) → Held → Act
 moved word name held s =
     if held.worker == s.worker then Ok (bound name (named_scalar s.worker held.variable) s)
@@ -114,10 +115,6 @@ first_layer (ConstExpr-F.Chain first rest) = first
 unfoldable pub first_token : ConstExpr → Token
 first_token = fold-ConstExpr Token first_layer
 
--- the worker of this number, of so many
-abbrev pub worker_in : (workers : ℕ) → ℤ → Option ℕ
-worker_in workers z = if int_le (pos 0) z && int_lt z (pos workers) then Some (unsigned_abs z) else None
-
 -- a turn of a loop, with this number: it is a step, and has a scope of its own
 abbrev pub turn : ℤ → (word name : Token) → Act → Act
 turn number word name body s = do
@@ -131,16 +128,10 @@ turns (suc n) number word name body s = do
   after ← turn number word name body s
   turns n (number +ℤ pos 1) word name body after
 
--- how many numbers there are from the first to below the second
-abbrev pub distance : ℤ → ℤ → ℕ
-distance from to = if int_lt from to then unsigned_abs (to -ℤ from) else 0
-
--- whether a condition holds
-abbrev pub holds : (op : Token) → ℤ → ℤ → Bool
-holds op a b = if row_of op == EQUALS then int_le a b && int_le b a else int_lt a b
-
 -- the header of an `if`: whether its condition holds
-unfoldable pub condition : (word : Token) → (lower : ConstExpr) → (op : Token) → (upper : ConstExpr) → State → Result (Bool × State) LangFault
+unfoldable pub condition :
+    (word : Token) → (lower : ConstExpr) → (op : Token) → (upper : ConstExpr) →
+    State → Result (Bool × State) LangFault
 condition word lower op upper s = do
   s ← stepped word s
   first ← constant_of lower (constants_of s)
@@ -193,7 +184,7 @@ stmt_layer (Stmt-F.Move word name place) s = do
 stmt_layer (Stmt-F.On word worker body) s = do
   s ← stepped word s
   number ← constant_of worker (constants_of s)
-  chosen ← or_fault wrong.BadWorker (first_token worker) (worker_in s.workers number)
+  chosen ← or_fault wrong.BadWorker (first_token worker) (number_below s.workers number)
   after ← all_acts body (record s { worker = chosen })
   Ok (record after { worker = s.worker })
 stmt_layer (Stmt-F.For word name from to body) s = do
@@ -208,7 +199,8 @@ stmt_layer (Stmt-F.If word lower op upper body other) s = do
 stmt_layer (Stmt-F.Output word value) s = do
   s ← stepped word s
   variable ← variable_of value word s
-  emitted word s.worker (instr_of op.Output variable.0.width (variable.0.index ∷ 0 ∷ 0 ∷ []) 0) variable.1
+  emitted word s.worker
+      (instr_of op.Output variable.0.width (variable.0.index ∷ 0 ∷ 0 ∷ []) 0) variable.1
 
 -- the execution of a statement
 unfoldable pub executed : Stmt → Act

@@ -3,17 +3,18 @@
 
 ghost use Rattle.std.specs.Prelude.{◌≡◌, ◌≤◌, Ok, OnOk};
 ghost use Rattle.mage_instr.specs.Opcodes.{width_of_result};
-ghost use Rattle.mage_unroll.specs.Answer.{Gives};
+ghost use Rattle.mage_constants.specs.Answer.{Gives};
+ghost use Rattle.mage_unroll.specs.Limits.{MOST_STEPS as most_steps};
 ghost use Rattle.mage_unroll.specs.State.{stepped, stepped_by, emitted, defined, is_free, bound, is_as_wide};
 ghost use Rattle.mage_unroll.specs.Statements.{entering, leaving};
-ghost use Rattle.mage_unroll.specs.Unroller.{state_of};
+ghost use Rattle.mage_unroll.specs.Unroller.{state_of, Does, Answers};
 
-use crate::faults::fault_at;
 use crate::unroller::Unroller;
 use crate::{Named, Variable};
+use mage_constants::fault_at;
 use mage_instr::{Instr, Op, result_width};
 use mage_lex::{LangFault, LangKind, Token};
-use mage_syntax::bytes_of;
+use mage_tree::bytes_of;
 
 // How many steps a program may have.
 const MOST_STEPS: u32 = 16_000_000;
@@ -42,8 +43,8 @@ pub fn is_as_wide(token: &Token, width: u8, other: u8) -> Result<(), LangFault>
 impl<'a> Unroller<'a> {
     /// So many steps more. `word` is the first token of the statement.
     pub fn step_by(&mut self, count: u128, word: &Token) -> Result<(), LangFault>
-        ensures steps { Gives (λ _. state_of self.new) result (stepped_by count word.now (state_of self.old)) }
-        ensures few { OnOk result (count ≤ 16000000) }
+        ensures steps { Does (stepped_by count word.now) self.old self.new result }
+        ensures few { OnOk result (count ≤ most_steps) }
     {
         let left = MOST_STEPS.saturating_sub(self.steps);
         if count > u128::from(left) || self.steps > MOST_STEPS {
@@ -55,14 +56,14 @@ impl<'a> Unroller<'a> {
 
     /// One step more.
     pub fn step(&mut self, word: &Token) -> Result<(), LangFault>
-        ensures { Gives (λ _. state_of self.new) result (stepped word.now (state_of self.old)) }
+        ensures { Does (stepped word.now) self.old self.new result }
     {
         self.step_by(1, word)
     }
 
     /// One instruction more on a worker.
     pub fn emit(&mut self, word: &Token, worker: u8, instr: Instr) -> Result<(), LangFault>
-        ensures { Gives (λ _. state_of self.new) result (emitted word.now worker instr (state_of self.old)) }
+        ensures { Does (emitted word.now worker instr) self.old self.new result }
     {
         if self.emission.emitted.len() >= MOST_INSTRS {
             return Err(fault_at(LangKind::TooLong, word));
@@ -73,7 +74,7 @@ impl<'a> Unroller<'a> {
 
     /// One instruction more on the current worker, and the variable that it defines.
     pub fn define(&mut self, word: &Token, instr: Instr) -> Result<Variable, LangFault>
-        ensures { Gives (λ variable. (variable, state_of self.new)) result (defined word.now instr (state_of self.old)) }
+        ensures { Answers (defined word.now instr) self.old self.new result }
     {
         let index = self.emission.count(self.worker);
         self.emit(word, self.worker, instr)?;
@@ -96,7 +97,7 @@ impl<'a> Unroller<'a> {
 
     /// The name stands for this in the innermost scope.
     pub fn bind(&mut self, name: &'a Token, value: Named) -> Result<(), LangFault>
-        ensures { Gives (λ _. state_of self.new) result (Ok (bound name.now value (state_of self.old))) }
+        ensures { Does (λ s. Ok (bound name.now value s)) self.old self.new result }
     {
         self.scopes.declare(bytes_of(name), value)?;
         Ok(())
@@ -104,7 +105,7 @@ impl<'a> Unroller<'a> {
 
     /// Enters a scope without names.
     pub fn enter(&mut self) -> Result<(), LangFault>
-        ensures { Gives (λ _. state_of self.new) result (Ok (entering (state_of self.old))) }
+        ensures { Does (λ s. Ok (entering s)) self.old self.new result }
     {
         self.scopes.enter()?;
         Ok(())

@@ -1,10 +1,11 @@
 // The instructions that are emitted.
 ghost use Rattle.std.specs.Prelude.{◌≡◌, ◌<◌, ◌++◌, ◌∷◌, [], ℕ, length, slice_index, OnOk};
-ghost use Rattle.mage_unroll.specs.State.{count_of};
+ghost use Rattle.mage_linked.specs.Emission.{count_of};
+ghost use Rattle.mage_unroll.specs.Limits.{MOST_INSTRS as most_instrs};
 
-use crate::Emitted;
 use mage_base::Memory;
 use mage_instr::Instr;
+use mage_linked::Emitted;
 use std::alloc::Global;
 
 /// The instructions so far in the order of their emission, and how many of them each worker has.
@@ -13,7 +14,8 @@ pub struct Emission {
     pub emitted: Vec<Emitted>,
     // By the worker, of whatever number.
     counts: [u32; 256],
-    ghost counted: { (worker : ℕ) → worker < 256 → slice_index counts worker ≡ count_of worker emitted.items },
+    ghost counted: { (worker : ℕ) → worker < 256 →
+        slice_index counts worker ≡ count_of worker emitted.items },
 }
 
 impl Emission {
@@ -36,8 +38,9 @@ impl Emission {
 
     /// One instruction more on a worker.
     pub fn add(&mut self, worker: u8, instr: Instr) -> Result<(), Memory>
-        requires { length self.old.emitted.items < 2000000 }
-        ensures { OnOk result (self.new.emitted.items ≡ self.old.emitted.items ++ record { worker = worker; instr = instr } ∷ []) }
+        requires { length self.old.emitted.items < most_instrs }
+        ensures { OnOk result (self.new.emitted.items
+            ≡ self.old.emitted.items ++ record { worker = worker; instr = instr } ∷ []) }
     {
         self.emitted.push(Emitted { worker, instr })?;
         self.counts[usize::from(worker)] += 1;

@@ -2,24 +2,23 @@
 #![tactic(auto, unfolding(crate::specs::Unroller::state_of))]
 
 ghost use Rattle.std.specs.Prelude.{◌≡◌, map};
-ghost use Rattle.mage_syntax.specs.declared.tree.Stmt.TheOpen.{Stmt-F};
-ghost use Rattle.mage_unroll.specs.Answer.{Gives};
-ghost use Rattle.mage_unroll.specs.Statements.{all_acts, in_scope, turn, turns, distance, stmt_layer, executed};
-ghost use Rattle.mage_unroll.specs.Unroller.{state_of};
+ghost use Rattle.mage_tree.specs.declared.tree.Stmt.TheOpen.{Stmt-F};
+ghost use Rattle.mage_constants.specs.Ranges.{distance};
+ghost use Rattle.mage_unroll.specs.Statements.{all_acts, in_scope, turn, turns, stmt_layer, executed};
+ghost use Rattle.mage_unroll.specs.Unroller.{Does};
 
 use crate::Named;
-use crate::constants::constant_of;
-use crate::faults::fault_at;
-use crate::headers::{first_token, worker_in};
+use crate::headers::first_token;
 use crate::unroller::Unroller;
+use mage_constants::{fault_at, number_below};
 use mage_lex::{LangFault, LangKind, Token};
-use mage_syntax::{ConstExpr, Stmt};
+use mage_tree::{ConstExpr, Stmt};
 
 /// Executes a statement.
 #[cycle(statements)]
 #[tactic(auto, unfolding(crate::specs::Statements::executed))]
 pub fn execute<'a>(unroller: &mut Unroller<'a>, statement: &'a Stmt) -> Result<(), LangFault>
-    ensures { Gives (λ _. state_of unroller.new) result (executed statement.now (state_of unroller.old)) }
+    ensures { Does (executed statement.now) unroller.old unroller.new result }
 {
     match statement {
         Stmt::Constant { word, name, value } => unroller.constant(word, name, value),
@@ -30,7 +29,7 @@ pub fn execute<'a>(unroller: &mut Unroller<'a>, statement: &'a Stmt) -> Result<(
             ty,
             length,
         } => unroller.input(word, party, name, ty, length),
-        Stmt::Let { word, name, value } => unroller.declare(word, name, value),
+        Stmt::Let { word, name, value } => unroller.declare(word, name, value.get()),
         Stmt::Array {
             word,
             name,
@@ -38,8 +37,8 @@ pub fn execute<'a>(unroller: &mut Unroller<'a>, statement: &'a Stmt) -> Result<(
             length,
             eq,
             value,
-        } => unroller.array(word, name, ty, length, eq, value),
-        Stmt::Assign { place, eq, value } => unroller.rebind(place, eq, value),
+        } => unroller.array(word, name, ty, length, eq, value.get()),
+        Stmt::Assign { place, eq, value } => unroller.rebind(place, eq, value.get()),
         Stmt::Move { word, name, place } => unroller.take(word, name, place),
         Stmt::On { word, worker, body } => on_worker(unroller, body.as_slice(), word, worker),
         Stmt::For {
@@ -65,14 +64,14 @@ pub fn execute<'a>(unroller: &mut Unroller<'a>, statement: &'a Stmt) -> Result<(
                 Ok(())
             }
         }
-        Stmt::Output { word, value } => unroller.output(word, value),
+        Stmt::Output { word, value } => unroller.output(word, value.get()),
     }
 }
 
 /// Executes statements in their order.
 #[cycle(statements)]
 pub fn all<'a>(unroller: &mut Unroller<'a>, body: &'a [Stmt]) -> Result<(), LangFault>
-    ensures { Gives (λ _. state_of unroller.new) result (all_acts (map executed body.now) (state_of unroller.old)) }
+    ensures { Does (all_acts (map executed body.now)) unroller.old unroller.new result }
 {
     for statement in body {
         execute(unroller, statement)?;
@@ -83,7 +82,7 @@ pub fn all<'a>(unroller: &mut Unroller<'a>, body: &'a [Stmt]) -> Result<(), Lang
 // Statements in a scope of their own.
 #[cycle(statements)]
 fn block<'a>(unroller: &mut Unroller<'a>, body: &'a [Stmt]) -> Result<(), LangFault>
-    ensures { Gives (λ _. state_of unroller.new) result (in_scope (all_acts (map executed body.now)) (state_of unroller.old)) }
+    ensures { Does (in_scope (all_acts (map executed body.now))) unroller.old unroller.new result }
 {
     unroller.enter()?;
     all(unroller, body)?;
@@ -91,7 +90,8 @@ fn block<'a>(unroller: &mut Unroller<'a>, body: &'a [Stmt]) -> Result<(), LangFa
     Ok(())
 }
 
-// Statements on the worker that the constant names; the current worker is the one before again afterwards.
+// Statements on the worker that the constant names; the current worker is the one before again
+// afterwards.
 #[cycle(statements)]
 #[tactic(auto, unfolding(crate::specs::Unroller::state_of, crate::specs::Statements::stmt_layer))]
 fn on_worker<'a>(
@@ -100,14 +100,15 @@ fn on_worker<'a>(
     word: &Token,
     worker: &ConstExpr,
 ) -> Result<(), LangFault>
-    ensures { Gives (λ _. state_of unroller.new) result (stmt_layer (Stmt-F.On word.now worker.now (map executed body.now)) (state_of unroller.old)) }
+    ensures { Does (stmt_layer (Stmt-F.On word.now worker.now (map executed body.now)))
+        unroller.old unroller.new result }
 {
     unroller.step(word)?;
-    let number = constant_of(&unroller.scopes, worker)?;
+    let number = unroller.value_of(worker)?;
     let fault = fault_at(LangKind::BadWorker, first_token(worker));
-    let chosen = worker_in(unroller.workers, number).ok_or(fault)?;
+    let chosen = number_below(u128::from(unroller.workers), number).ok_or(fault)?;
     let before = unroller.worker;
-    unroller.worker = chosen;
+    unroller.worker = chosen as u8;
     all(unroller, body)?;
     unroller.worker = before;
     Ok(())
@@ -124,12 +125,14 @@ fn repeat<'a>(
     from: &ConstExpr,
     to: &ConstExpr,
 ) -> Result<(), LangFault>
-    ensures { Gives (λ _. state_of unroller.new) result (stmt_layer (Stmt-F.For word.now name.now from.now to.now (map executed body.now)) (state_of unroller.old)) }
+    ensures { Does
+        (stmt_layer (Stmt-F.For word.now name.now from.now to.now (map executed body.now)))
+        unroller.old unroller.new result }
 {
     unroller.step(word)?;
     unroller.is_free(name)?;
-    let first = constant_of(&unroller.scopes, from)?;
-    let end = constant_of(&unroller.scopes, to)?;
+    let first = unroller.value_of(from)?;
+    let end = unroller.value_of(to)?;
     turns(unroller, body, word, name, first, end)
 }
 
@@ -143,7 +146,9 @@ fn turns<'a>(
     first: i128,
     end: i128,
 ) -> Result<(), LangFault>
-    ensures { Gives (λ _. state_of unroller.new) result (turns (distance first end) first word.now name.now (all_acts (map executed body.now)) (state_of unroller.old)) }
+    ensures { Does
+        (turns (distance first end) first word.now name.now (all_acts (map executed body.now)))
+        unroller.old unroller.new result }
 {
     let mut number = first;
     while number < end {
@@ -162,7 +167,8 @@ fn turn<'a>(
     name: &'a Token,
     number: i128,
 ) -> Result<(), LangFault>
-    ensures { Gives (λ _. state_of unroller.new) result (turn number word.now name.now (all_acts (map executed body.now)) (state_of unroller.old)) }
+    ensures { Does (turn number word.now name.now (all_acts (map executed body.now)))
+        unroller.old unroller.new result }
 {
     unroller.step(word)?;
     unroller.enter()?;

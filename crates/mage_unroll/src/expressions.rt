@@ -1,16 +1,17 @@
-// The instructions of an expression. It evaluates its operands from left to right, each wholly, and then emits its
-// instruction.
+// The instructions of an expression. It evaluates its operands from left to right, each wholly, and
+// then emits its instruction.
 ghost use Rattle.std.specs.Prelude.{◌≡◌, map};
-ghost use Rattle.mage_syntax.specs.declared.tree.Expr.TheOpen.{Expr-F};
-ghost use Rattle.mage_unroll.specs.Answer.{Gives};
+ghost use Rattle.mage_tree.specs.declared.tree.Expr.TheOpen.{Expr-F};
+ghost use Rattle.mage_constants.specs.Answer.{Gives};
 ghost use Rattle.mage_unroll.specs.Expressions.{chained, all_shifted, all_of, expr_layer, variable_of};
-ghost use Rattle.mage_unroll.specs.Unroller.{state_of};
+ghost use Rattle.mage_unroll.specs.Unroller.{state_of, Does, Answers};
 
 use crate::Variable;
 use crate::operators::width_at;
 use crate::unroller::Unroller;
+use mage_instr::Op;
 use mage_lex::{LangFault, Token};
-use mage_syntax::{ConstExpr, Expr};
+use mage_tree::{ConstExpr, Expr};
 
 /// The variable of an expression. `word` is the first token of the statement.
 #[cycle(expressions)]
@@ -20,7 +21,7 @@ pub fn variable_of(
     word: &Token,
     value: &Expr,
 ) -> Result<Variable, LangFault>
-    ensures { Gives (λ variable. (variable, state_of unroller.new)) result (variable_of value.now word.now (state_of unroller.old)) }
+    ensures { Answers (variable_of value.now word.now) unroller.old unroller.new result }
 {
     match value {
         Expr::Item(item) => {
@@ -38,7 +39,7 @@ pub fn variable_of(
         }
         Expr::Not { of, .. } => {
             let operand = variable_of(unroller, word, of.get())?;
-            unroller.negate(word, operand)
+            unroller.compute(Op::Not, word, operand, 0)
         }
         Expr::Lit {
             word: keyword,
@@ -57,6 +58,13 @@ pub fn variable_of(
             let values = all_of(unroller, word, args.as_slice())?;
             unroller.choose(word, keyword, &values)
         }
+        Expr::Call {
+            word: keyword,
+            args,
+        } => {
+            let values = all_of(unroller, word, args.as_slice())?;
+            unroller.call(word, keyword, &values)
+        }
     }
 }
 
@@ -68,7 +76,8 @@ fn chained(
     first: Variable,
     rest: &[(Token, Expr)],
 ) -> Result<Variable, LangFault>
-    ensures { Gives (λ variable. (variable, state_of unroller.new)) result (chained (map (λ term. (term.0, variable_of term.1)) rest.now) word.now first (state_of unroller.old)) }
+    ensures { Answers (chained (map (λ term. (term.0, variable_of term.1)) rest.now) word.now first)
+        unroller.old unroller.new result }
 {
     let mut so_far = first;
     for term in rest {
@@ -85,7 +94,7 @@ fn all_shifted(
     first: Variable,
     rest: &[(Token, ConstExpr)],
 ) -> Result<Variable, LangFault>
-    ensures { Gives (λ variable. (variable, state_of unroller.new)) result (all_shifted rest.now word.now first (state_of unroller.old)) }
+    ensures { Answers (all_shifted rest.now word.now first) unroller.old unroller.new result }
 {
     let mut so_far = first;
     for term in rest {
@@ -101,7 +110,8 @@ fn all_of(
     word: &Token,
     args: &[Expr],
 ) -> Result<Vec<Variable>, LangFault>
-    ensures { Gives (λ values. (values.items, state_of unroller.new)) result (all_of (map variable_of args.now) word.now (state_of unroller.old)) }
+    ensures { Gives (λ values. (values.items, state_of unroller.new)) result
+        (all_of (map variable_of args.now) word.now (state_of unroller.old)) }
 {
     let mut values = Vec::new(unroller.alloc);
     for arg in args {

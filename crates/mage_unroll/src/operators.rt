@@ -2,79 +2,81 @@
 #![tactic(auto, unfolding(crate::specs::Unroller::state_of))]
 
 ghost use Rattle.std.specs.Prelude.{◌≡◌, ◌≤◌, ◌∷◌, [], IfOk};
+ghost use Rattle.mage_constants.specs.Answer.{Gives};
+ghost use Rattle.mage_instr.specs.Opcodes.{greatest_width};
 ghost use Rattle.mage_instr.specs.declared.op.Op.TheVariants as op;
-ghost use Rattle.mage_syntax.specs.declared.tree.Expr.TheOpen.{Expr-F};
-ghost use Rattle.mage_unroll.specs.Answer.{Gives};
-ghost use Rattle.mage_unroll.specs.Expressions.{op_of, shift_of, amount_in, literal_in, combined, shifted, chosen, expr_layer};
+ghost use Rattle.mage_tree.specs.declared.tree.Expr.TheOpen.{Expr-F};
+ghost use Rattle.mage_unroll.specs.Expressions.{op_of, shift_of, amount_in, literal_in, of_one, of_two, combined, shifted, chosen, call_of_one, call_of_two, called, expr_layer};
 ghost use Rattle.mage_unroll.specs.State.{instr_of, defined, width_at};
-ghost use Rattle.mage_unroll.specs.Unroller.{state_of};
+ghost use Rattle.mage_unroll.specs.Unroller.{Answers};
 
 use crate::Variable;
-use crate::constants::{constant_of, row_of};
 use crate::effects::is_as_wide;
-use crate::faults::fault_at;
 use crate::unroller::Unroller;
-use mage_instr::{Instr, Op};
-use mage_lex::symbols::{AND, EQUALS, LESS, MINUS, PLUS, SHIFT_LEFT, TIMES, XOR};
+use mage_constants::{fault_at, number_below, row_of};
+use mage_instr::{GREATEST_WIDTH, Instr, Op};
+use mage_lex::symbols::{
+    AND, DIVIDE, EQUALS, LESS, MINUS, OR, PLUS, REMAINDER, SHIFT_LEFT, SHIFT_RIGHT, TIMES, XOR,
+};
 use mage_lex::{LangFault, LangKind, Token};
-use mage_syntax::{ConstExpr, bytes_of, width_of_type};
+use mage_tree::{Callable, ConstExpr, bytes_of, callable_of, width_of_type};
 
-// The opcode of a binary operator.
+// The opcode of a binary operator; of another token none.
 #[tactic(auto, unfolding(crate::specs::Expressions::op_of))]
-fn op_of(token: &Token) -> Op
+fn op_of(token: &Token) -> Option<Op>
     ensures { result ≡ op_of token.now }
 {
     match row_of(token) {
-        PLUS => Op::Add,
-        MINUS => Op::Sub,
-        TIMES => Op::Mul,
-        AND => Op::And,
-        XOR => Op::Xor,
-        EQUALS => Op::Eq,
-        LESS => Op::Lt,
-        _ => Op::Or,
+        PLUS => Some(Op::Add),
+        MINUS => Some(Op::Sub),
+        TIMES => Some(Op::Mul),
+        DIVIDE => Some(Op::Div),
+        REMAINDER => Some(Op::Rem),
+        AND => Some(Op::And),
+        XOR => Some(Op::Xor),
+        OR => Some(Op::Or),
+        EQUALS => Some(Op::Eq),
+        LESS => Some(Op::Lt),
+        _ => None,
     }
 }
 
-// The opcode of a shift.
+// The opcode of a shift; of another token none.
 #[tactic(auto, unfolding(crate::specs::Expressions::shift_of))]
-fn shift_of(token: &Token) -> Op
+fn shift_of(token: &Token) -> Option<Op>
     ensures { result ≡ shift_of token.now }
 {
-    if row_of(token) == SHIFT_LEFT {
-        Op::Shl
-    } else {
-        Op::Shr
+    match row_of(token) {
+        SHIFT_LEFT => Some(Op::Shl),
+        SHIFT_RIGHT => Some(Op::Shr),
+        _ => None,
     }
 }
 
-// A constant as the amount of a shift: 0 to 64.
+// A constant as the amount of a shift: 0 to 128.
 fn amount_in(value: i128) -> Option<u64>
     ensures { result ≡ amount_in value }
 {
-    if 0 <= value && value <= 64 {
-        Some(value as u64)
-    } else {
-        None
+    match number_below(u128::from(GREATEST_WIDTH) + 1, value) {
+        Some(amount) => Some(amount as u64),
+        None => None,
     }
 }
 
-// A constant as the value of a literal of this width: 0 to 2^width - 1.
+// A constant as the value of a literal of this width: below 2 to the width, and below 2^64.
 fn literal_in(width: u8, value: i128) -> Option<u64>
-    requires { width ≤ 64 }
     ensures { result ≡ literal_in width value }
 {
-    if 0 <= value && value < 1i128 << width {
-        Some(value as u64)
-    } else {
-        None
+    match number_below(1 << width.min(64), value) {
+        Some(literal) => Some(literal as u64),
+        None => None,
     }
 }
 
 /// The width of a type word, and `BadWidth` at one that is no type.
 pub fn width_at(ty: &Token) -> Result<u8, LangFault>
     ensures value { Gives (λ x. x) result (width_at ty.now) }
-    ensures in_range { IfOk result (λ width. width ≤ 64) }
+    ensures in_range { IfOk result (λ width. width ≤ greatest_width) }
 {
     match width_of_type(bytes_of(ty)) {
         Some(width) => Ok(width),
@@ -83,6 +85,52 @@ pub fn width_at(ty: &Token) -> Result<u8, LangFault>
 }
 
 impl Unroller<'_> {
+    /// An opcode on one variable.
+    #[tactic(auto)]
+    pub fn compute(
+        &mut self,
+        op: Op,
+        word: &Token,
+        a: Variable,
+        imm: u64,
+    ) -> Result<Variable, LangFault>
+        ensures { Answers (of_one op word.now a imm) self.old self.new result }
+    {
+        self.define(
+            word,
+            Instr {
+                op,
+                width: a.width,
+                args: [a.index, 0, 0],
+                imm,
+            },
+        )
+    }
+
+    /// An opcode on two variables that have to be equally wide; at this token if they aren't.
+    #[tactic(auto, unfolding(crate::specs::Expressions::of_two))]
+    pub fn compute_both(
+        &mut self,
+        op: Op,
+        word: &Token,
+        token: &Token,
+        a: Variable,
+        b: Variable,
+    ) -> Result<Variable, LangFault>
+        ensures { Answers (of_two op word.now token.now a b) self.old self.new result }
+    {
+        is_as_wide(token, a.width, b.width)?;
+        self.define(
+            word,
+            Instr {
+                op,
+                width: a.width,
+                args: [a.index, b.index, 0],
+                imm: 0,
+            },
+        )
+    }
+
     /// A binary operator on two variables.
     #[tactic(auto, unfolding(crate::specs::Expressions::combined))]
     pub fn combine(
@@ -92,18 +140,10 @@ impl Unroller<'_> {
         a: Variable,
         b: Variable,
     ) -> Result<Variable, LangFault>
-        ensures { Gives (λ variable. (variable, state_of self.new)) result (combined word.now operator.now a b (state_of self.old)) }
+        ensures { Answers (combined word.now operator.now a b) self.old self.new result }
     {
-        is_as_wide(operator, a.width, b.width)?;
-        self.define(
-            word,
-            Instr {
-                op: op_of(operator),
-                width: a.width,
-                args: [a.index, b.index, 0],
-                imm: 0,
-            },
-        )
+        let op = op_of(operator).ok_or(fault_at(LangKind::WidthDiffers, operator))?;
+        self.compute_both(op, word, operator, a, b)
     }
 
     /// A shift by a constant.
@@ -115,41 +155,20 @@ impl Unroller<'_> {
         amount: &ConstExpr,
         a: Variable,
     ) -> Result<Variable, LangFault>
-        ensures { Gives (λ variable. (variable, state_of self.new)) result (shifted word.now operator.now amount.now a (state_of self.old)) }
+        ensures { Answers (shifted word.now operator.now amount.now a) self.old self.new result }
     {
-        let value = constant_of(&self.scopes, amount)?;
+        let value = self.value_of(amount)?;
         let imm = amount_in(value).ok_or(fault_at(LangKind::ConstFault, operator))?;
-        self.define(
-            word,
-            Instr {
-                op: shift_of(operator),
-                width: a.width,
-                args: [a.index, 0, 0],
-                imm,
-            },
-        )
-    }
-
-    /// The complement of a variable.
-    #[tactic(auto)]
-    pub fn negate(&mut self, word: &Token, a: Variable) -> Result<Variable, LangFault>
-        ensures { Gives (λ variable. (variable, state_of self.new)) result (defined word.now (instr_of op.Not a.width (a.index ∷ 0 ∷ 0 ∷ []) 0) (state_of self.old)) }
-    {
-        self.define(
-            word,
-            Instr {
-                op: Op::Not,
-                width: a.width,
-                args: [a.index, 0, 0],
-                imm: 0,
-            },
-        )
+        let op = shift_of(operator).ok_or(fault_at(LangKind::WidthDiffers, operator))?;
+        self.compute(op, word, a, imm)
     }
 
     /// A variable in another width.
     #[tactic(auto)]
     pub fn resize(&mut self, word: &Token, width: u8, a: Variable) -> Result<Variable, LangFault>
-        ensures { Gives (λ variable. (variable, state_of self.new)) result (defined word.now (instr_of op.Resize width (a.index ∷ 0 ∷ 0 ∷ []) a.width) (state_of self.old)) }
+        ensures { Answers
+            (defined word.now (instr_of op.Resize width (a.index ∷ 0 ∷ 0 ∷ []) a.width))
+            self.old self.new result }
     {
         self.define(
             word,
@@ -171,10 +190,11 @@ impl Unroller<'_> {
         ty: &Token,
         value: &ConstExpr,
     ) -> Result<Variable, LangFault>
-        ensures { Gives (λ variable. (variable, state_of self.new)) result (expr_layer (Expr-F.Lit keyword.now ty.now value.now) word.now (state_of self.old)) }
+        ensures { Answers (expr_layer (Expr-F.Lit keyword.now ty.now value.now) word.now)
+            self.old self.new result }
     {
         let width = width_at(ty)?;
-        let value = constant_of(&self.scopes, value)?;
+        let value = self.value_of(value)?;
         let imm = literal_in(width, value).ok_or(fault_at(LangKind::ConstFault, keyword))?;
         self.define(
             word,
@@ -195,7 +215,7 @@ impl Unroller<'_> {
         keyword: &Token,
         values: &[Variable],
     ) -> Result<Variable, LangFault>
-        ensures { Gives (λ variable. (variable, state_of self.new)) result (chosen word.now keyword.now values.now (state_of self.old)) }
+        ensures { Answers (chosen word.now keyword.now values.now) self.old self.new result }
     {
         match values {
             [condition, a, b] => {
@@ -212,6 +232,60 @@ impl Unroller<'_> {
                 )
             }
             _ => Err(fault_at(LangKind::WidthDiffers, keyword)),
+        }
+    }
+
+    // An opcode on the operand of a call, which has just one.
+    #[tactic(auto)]
+    fn call_of_one(
+        &mut self,
+        op: Op,
+        word: &Token,
+        keyword: &Token,
+        values: &[Variable],
+    ) -> Result<Variable, LangFault>
+        ensures { Answers (call_of_one op word.now keyword.now values.now)
+            self.old self.new result }
+    {
+        match values {
+            [a] => self.compute(op, word, *a, 0),
+            _ => Err(fault_at(LangKind::WidthDiffers, keyword)),
+        }
+    }
+
+    // An opcode on the operands of a call, which has just two.
+    #[tactic(auto)]
+    fn call_of_two(
+        &mut self,
+        op: Op,
+        word: &Token,
+        keyword: &Token,
+        values: &[Variable],
+    ) -> Result<Variable, LangFault>
+        ensures { Answers (call_of_two op word.now keyword.now values.now)
+            self.old self.new result }
+    {
+        match values {
+            [a, b] => self.compute_both(op, word, keyword, *a, *b),
+            _ => Err(fault_at(LangKind::WidthDiffers, keyword)),
+        }
+    }
+
+    /// A call on the variables of its operands.
+    #[tactic(auto, unfolding(crate::specs::Expressions::called))]
+    pub fn call(
+        &mut self,
+        word: &Token,
+        keyword: &Token,
+        values: &[Variable],
+    ) -> Result<Variable, LangFault>
+        ensures { Answers (called word.now keyword.now values.now) self.old self.new result }
+    {
+        match callable_of(bytes_of(keyword)) {
+            Some(Callable::Min) => self.call_of_two(Op::Min, word, keyword, values),
+            Some(Callable::Max) => self.call_of_two(Op::Max, word, keyword, values),
+            Some(Callable::Count) => self.call_of_one(Op::Count, word, keyword, values),
+            None => Err(fault_at(LangKind::WidthDiffers, keyword)),
         }
     }
 }

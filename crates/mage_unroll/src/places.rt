@@ -4,19 +4,18 @@
 ghost use Rattle.std.specs.Prelude.{◌≡◌, Some, None};
 ghost use Rattle.std.specs.Option.{option_copied};
 ghost use Rattle.mage_scopes.specs.Scopes.{scopes_of, found};
-ghost use Rattle.mage_syntax.specs.Words.{bytes_of};
-ghost use Rattle.mage_unroll.specs.Answer.{Gives};
+ghost use Rattle.mage_tree.specs.Words.{bytes_of};
+ghost use Rattle.mage_constants.specs.Answer.{Gives};
 ghost use Rattle.mage_unroll.specs.State.{as_scalar, as_array, position_of, item_of, place_with, place_of, own_place, rebound, assigned};
 ghost use Rattle.mage_unroll.specs.Unroller.{state_of};
 ghost use Rattle.mage_unroll.specs.declared.state.Named.TheVariants as named;
 
-use crate::constants::constant_of;
-use crate::faults::fault_at;
 use crate::state::Held;
 use crate::unroller::Unroller;
 use crate::{Array, Named, Scalar, Variable};
+use mage_constants::{fault_at, number_below};
 use mage_lex::{LangFault, LangKind, Token};
-use mage_syntax::{ConstExpr, Item, bytes_of};
+use mage_tree::{ConstExpr, Item, bytes_of};
 
 fn as_scalar(value: Option<&Named>) -> Option<Scalar>
     ensures { result ≡ as_scalar (option_copied value.entry) }
@@ -40,11 +39,9 @@ fn as_array(value: Option<&Named>) -> Option<&Array>
 fn position_of(index: i128, array: &Array) -> Option<usize>
     ensures { result ≡ position_of index array.now }
 {
-    let count = array.items.len() as i128;
-    if 0 <= index && index < count {
-        Some(index as usize)
-    } else {
-        None
+    match number_below(array.items.len() as u128, index) {
+        Some(position) => Some(position as usize),
+        None => None,
     }
 }
 
@@ -78,7 +75,7 @@ impl Unroller<'_> {
     fn item_of(&self, name: &Token, index: &ConstExpr, array: &Array) -> Result<Held, LangFault>
         ensures { Gives (λ x. x) result (item_of name.now index.now array.now (state_of self.now)) }
     {
-        let value = constant_of(&self.scopes, index)?;
+        let value = self.value_of(index)?;
         let position = position_of(value, array).ok_or(fault_at(LangKind::IndexOut, name))?;
         let index = array.items.get(position);
         let index = *index.ok_or(fault_at(LangKind::IndexOut, name))?;

@@ -1,11 +1,10 @@
-// What names stand for while a source is unrolled, and what is emitted.
-use mage_instr::Instr;
+// What names stand for while a source is unrolled.
 use sqlite_items::Items;
 
 /// A value that an instruction of a worker defines.
 #[derive(Clone, Copy, Debug)]
 pub struct Variable {
-    /// Its width in bits, 1 to 64.
+    /// Its width in bits, 1 to 128.
     pub width: u8,
     /// The index of the instruction among those of its worker.
     pub index: u32,
@@ -36,13 +35,6 @@ pub enum Named {
     Constant(i128),
     Scalar(Scalar),
     Array(Array),
-}
-
-/// An instruction, and the worker that does it.
-#[derive(Clone, Copy, Debug)]
-pub struct Emitted {
-    pub worker: u8,
-    pub instr: Instr,
 }
 
 /// What a place stands for.

@@ -3,25 +3,24 @@
 
 ghost use Rattle.std.specs.Prelude.{◌≡◌, ◌∷◌, [], replicate, IfOk, Ok};
 ghost use Rattle.mage_instr.specs.declared.op.Op.TheVariants as op;
-ghost use Rattle.mage_syntax.specs.declared.tree.Stmt.TheOpen.{Stmt-F};
-ghost use Rattle.mage_unroll.specs.Answer.{Gives};
+ghost use Rattle.mage_tree.specs.declared.tree.Stmt.TheOpen.{Stmt-F};
+ghost use Rattle.mage_constants.specs.Answer.{Gives};
 ghost use Rattle.mage_unroll.specs.State.{instr_of, defined, bound};
-ghost use Rattle.mage_unroll.specs.Statements.{length_in, length_at, party_of, inputs, input_of, named_scalar, transferred, moved, stmt_layer};
-ghost use Rattle.mage_unroll.specs.Unroller.{state_of};
+ghost use Rattle.mage_unroll.specs.Statements.{length_at, party_of, inputs, input_of, named_scalar, transferred, moved, stmt_layer};
+ghost use Rattle.mage_unroll.specs.Unroller.{state_of, Does, Answers};
 ghost use Rattle.mage_unroll.specs.declared.state.Named.TheVariants as named;
 
-use crate::constants::constant_of;
 use crate::effects::is_as_wide;
 use crate::expressions::variable_of;
-use crate::faults::fault_at;
 use crate::operators::width_at;
 use crate::state::Held;
 use crate::unroller::Unroller;
 use crate::{Array, Named, Scalar, Variable};
 use mage_base::Memory;
+use mage_constants::{fault_at, size_in};
 use mage_instr::{Instr, Op};
 use mage_lex::{LangFault, LangKind, Token};
-use mage_syntax::{ConstExpr, Expr, Item, bytes_of};
+use mage_tree::{ConstExpr, Expr, Item, bytes_of};
 use sqlite_items::Items;
 use std::alloc::Global;
 
@@ -33,17 +32,6 @@ fn party_of(party: &Token) -> u64
         1
     } else {
         0
-    }
-}
-
-// A constant as the length of an array.
-fn length_in(value: i128) -> Option<u128>
-    ensures { result ≡ length_in value }
-{
-    if 0 <= value {
-        Some(value as u128)
-    } else {
-        None
     }
 }
 
@@ -62,11 +50,12 @@ impl<'a> Unroller<'a> {
         name: &'a Token,
         value: &ConstExpr,
     ) -> Result<(), LangFault>
-        ensures { Gives (λ _. state_of self.new) result (stmt_layer (Stmt-F.Constant word.now name.now value.now) (state_of self.old)) }
+        ensures { Does (stmt_layer (Stmt-F.Constant word.now name.now value.now))
+            self.old self.new result }
     {
         self.step(word)?;
         self.is_free(name)?;
-        let value = constant_of(&self.scopes, value)?;
+        let value = self.value_of(value)?;
         self.bind(name, Named::Constant(value))
     }
 
@@ -75,8 +64,8 @@ impl<'a> Unroller<'a> {
     fn length_at(&self, size: &(Token, ConstExpr)) -> Result<u128, LangFault>
         ensures { Gives (λ x. x) result (length_at size.now (state_of self.now)) }
     {
-        let value = constant_of(&self.scopes, &size.1)?;
-        length_in(value).ok_or(fault_at(LangKind::ConstFault, &size.0))
+        let value = self.value_of(&size.1)?;
+        size_in(value).ok_or(fault_at(LangKind::ConstFault, &size.0))
     }
 
     fn bind_scalar(
@@ -85,20 +74,23 @@ impl<'a> Unroller<'a> {
         worker: u8,
         variable: Variable,
     ) -> Result<(), LangFault>
-        ensures { Gives (λ _. state_of self.new) result (Ok (bound name.now (named_scalar worker variable) (state_of self.old))) }
+        ensures { Does (λ s. Ok (bound name.now (named_scalar worker variable) s))
+            self.old self.new result }
     {
         self.bind(name, Named::Scalar(Scalar { worker, variable }))
     }
 
     fn bind_array(&mut self, name: &'a Token, array: Array) -> Result<(), LangFault>
-        ensures { Gives (λ _. state_of self.new) result (Ok (bound name.now (named.Array array) (state_of self.old))) }
+        ensures { Does (λ s. Ok (bound name.now (named.Array array) s)) self.old self.new result }
     {
         self.bind(name, Named::Array(array))
     }
 
     // One value that a party hands in.
     fn input_value(&mut self, word: &Token, party: &Token, width: u8) -> Result<Variable, LangFault>
-        ensures { Gives (λ variable. (variable, state_of self.new)) result (defined word.now (instr_of op.Input width (0 ∷ 0 ∷ 0 ∷ []) (party_of party.now)) (state_of self.old)) }
+        ensures { Answers
+            (defined word.now (instr_of op.Input width (0 ∷ 0 ∷ 0 ∷ []) (party_of party.now)))
+            self.old self.new result }
     {
         self.define(
             word,
@@ -119,7 +111,7 @@ impl<'a> Unroller<'a> {
         party: &Token,
         width: u8,
     ) -> Result<Items<u32>, LangFault>
-        ensures { Gives (λ items. (items, state_of self.new)) result (inputs count word.now party.now width [] (state_of self.old)) }
+        ensures { Answers (inputs count word.now party.now width []) self.old self.new result }
     {
         let mut items = Items::new(self.alloc);
         for _ in 0..count {
@@ -140,7 +132,8 @@ impl<'a> Unroller<'a> {
         name: &'a Token,
         width: u8,
     ) -> Result<(), LangFault>
-        ensures { Gives (λ _. state_of self.new) result (input_of length.now word.now party.now name.now width (state_of self.old)) }
+        ensures { Does (input_of length.now word.now party.now name.now width)
+            self.old self.new result }
     {
         let worker = self.worker;
         match length {
@@ -170,7 +163,8 @@ impl<'a> Unroller<'a> {
         ty: &Token,
         length: &Option<(Token, ConstExpr)>,
     ) -> Result<(), LangFault>
-        ensures { Gives (λ _. state_of self.new) result (stmt_layer (Stmt-F.Input word.now party.now name.now ty.now length.now) (state_of self.old)) }
+        ensures { Does (stmt_layer (Stmt-F.Input word.now party.now name.now ty.now length.now))
+            self.old self.new result }
     {
         self.step(word)?;
         self.is_free(name)?;
@@ -180,7 +174,8 @@ impl<'a> Unroller<'a> {
 
     /// The statement `let`.
     pub fn declare(&mut self, word: &Token, name: &'a Token, value: &Expr) -> Result<(), LangFault>
-        ensures { Gives (λ _. state_of self.new) result (stmt_layer (Stmt-F.Let word.now name.now value.now) (state_of self.old)) }
+        ensures { Does (stmt_layer (Stmt-F.Let word.now name.now value.now))
+            self.old self.new result }
     {
         self.step(word)?;
         self.is_free(name)?;
@@ -199,7 +194,9 @@ impl<'a> Unroller<'a> {
         eq: &Token,
         value: &Expr,
     ) -> Result<(), LangFault>
-        ensures { Gives (λ _. state_of self.new) result (stmt_layer (Stmt-F.Array word.now name.now ty.now length.now eq.now value.now) (state_of self.old)) }
+        ensures { Does
+            (stmt_layer (Stmt-F.Array word.now name.now ty.now length.now eq.now value.now))
+            self.old self.new result }
     {
         self.step(word)?;
         self.is_free(name)?;
@@ -220,7 +217,8 @@ impl<'a> Unroller<'a> {
 
     /// An assignment.
     pub fn rebind(&mut self, place: &Item, eq: &Token, value: &Expr) -> Result<(), LangFault>
-        ensures { Gives (λ _. state_of self.new) result (stmt_layer (Stmt-F.Assign place.now eq.now value.now) (state_of self.old)) }
+        ensures { Does (stmt_layer (Stmt-F.Assign place.now eq.now value.now))
+            self.old self.new result }
     {
         self.step(&place.name)?;
         let held = self.own_place(place)?;
@@ -233,7 +231,7 @@ impl<'a> Unroller<'a> {
     // Sends a variable of another worker to the current one.
     #[tactic(auto, unfolding(crate::specs::Unroller::state_of, crate::specs::Statements::transferred))]
     fn transfer(&mut self, word: &Token, held: Held) -> Result<Variable, LangFault>
-        ensures { Gives (λ variable. (variable, state_of self.new)) result (transferred word.now held (state_of self.old)) }
+        ensures { Answers (transferred word.now held) self.old self.new result }
     {
         let width = held.variable.width;
         self.emit(
@@ -260,7 +258,7 @@ impl<'a> Unroller<'a> {
     // The name stands for what a place holds, which is sent where it is on another worker.
     #[tactic(auto, unfolding(crate::specs::Unroller::state_of, crate::specs::Statements::moved))]
     fn receive(&mut self, word: &Token, name: &'a Token, held: Held) -> Result<(), LangFault>
-        ensures { Gives (λ _. state_of self.new) result (moved word.now name.now held (state_of self.old)) }
+        ensures { Does (moved word.now name.now held) self.old self.new result }
     {
         let worker = self.worker;
         if held.worker == worker {
@@ -272,7 +270,8 @@ impl<'a> Unroller<'a> {
 
     /// The statement `move`.
     pub fn take(&mut self, word: &Token, name: &'a Token, place: &Item) -> Result<(), LangFault>
-        ensures { Gives (λ _. state_of self.new) result (stmt_layer (Stmt-F.Move word.now name.now place.now) (state_of self.old)) }
+        ensures { Does (stmt_layer (Stmt-F.Move word.now name.now place.now))
+            self.old self.new result }
     {
         self.step(word)?;
         self.is_free(name)?;
@@ -282,7 +281,7 @@ impl<'a> Unroller<'a> {
 
     /// The statement `output`.
     pub fn output(&mut self, word: &Token, value: &Expr) -> Result<(), LangFault>
-        ensures { Gives (λ _. state_of self.new) result (stmt_layer (Stmt-F.Output word.now value.now) (state_of self.old)) }
+        ensures { Does (stmt_layer (Stmt-F.Output word.now value.now)) self.old self.new result }
     {
         self.step(word)?;
         let worker = self.worker;

@@ -1,3 +1,4 @@
+// What plans cost, and the first fault of those that are none.
 use super::*;
 use std::test::Fail;
 

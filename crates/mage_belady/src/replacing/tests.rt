@@ -1,6 +1,8 @@
-ghost use Rattle.std.specs.Prelude.{◌≡◌, ◌≤◌, length, slice_index, IfOk, Contains};
+// What `replace` lists for small programs, and that no other plan reads less, by trying each.
+ghost use Rattle.std.specs.Prelude.{◌≡◌, ◌≤◌, ◌<◌, length, slice_index, IfOk, Contains};
 ghost use Rattle.mage_instr.specs.Trace.{IsTrace, IsStep, pages_of};
 ghost use Rattle.mage_belady.specs.Placed.{FitsTrace};
+ghost use Rattle.mage_belady.specs.Rule.{page_uses};
 
 use super::*;
 use mage_instr::{Job, Op, Spot, Tight};
@@ -40,7 +42,8 @@ macro_rules! entry {
     };
 }
 
-// An instruction with its spots, each as frame and offset: that of the result, and those of the arguments.
+// An instruction with its spots, each as frame and offset: that of the result, and those of the
+// arguments.
 fn job(op: Op, width: u8, out: (u16, u16), args: [(u16, u16); 3]) -> Replaced {
     Replaced::Do(Job {
         op,
@@ -80,8 +83,37 @@ fn replaced(
     replace(alloc, instrs, places, trace, nexts.as_slice(), frames)
 }
 
-// Three values on a page each, of which the first two are handed out. Where the third comes, page 1 leaves, which is
-// used after page 0; where page 1 comes back, page 0 leaves, since neither page is used again.
+// The list of five steps of a page each, in two frames. It takes at most 15 calls on the map.
+fn counted<L: Ledger>(
+    alloc: Global,
+    instrs: &[Instr],
+    places: &[Place],
+    trace: &[Step],
+    blank: Blank,
+) -> Result<Vec<Replaced>, ReplaceError>
+    requires trace { IsTrace trace.now }
+    requires places { FitsTrace instrs.now places.now trace.now }
+    requires five { page_uses trace.now ≡ 5 }
+    requires name { blank.name ≡ L.name }
+    requires parts { blank.parts ≡ L.parts }
+    requires some { 0 < blank.parts }
+{
+    let nexts = next_uses(alloc, trace).map_err(|_| ReplaceError::Memory)?;
+    let mut steps = Steps::<L>::new(blank);
+    let list = replace_counted(alloc, instrs, places, trace, &nexts, 2, &mut steps)?;
+    at_most_fifteen(&steps);
+    Ok(list)
+}
+
+// No more than 15 steps were taken: what the call needs is proved, and nothing is done when it
+// runs.
+fn at_most_fifteen<L: Ledger>(_steps: &Steps<L>)
+    requires { _steps.now ≤ 15 }
+{}
+
+// Three values on a page each, of which the first two are handed out. Where the third comes, page 1
+// leaves, which is used after page 0; where page 1 comes back, page 0 leaves, since neither page is
+// used again.
 #[test]
 fn the_page_used_latest_leaves(rt: HostRuntime) -> Result<(), Fail> {
     let instrs = [
@@ -93,7 +125,8 @@ fn the_page_used_latest_leaves(rt: HostRuntime) -> Result<(), Fail> {
     ];
     let places = [at!(0 0), at!(1 0), at!(2 0), at!(0 0), at!(0 0)];
     let trace = [pages!(0), pages!(1), pages!(2), pages!(0), pages!(1)];
-    let two = replaced(rt.alloc(), &instrs, &places, &trace, 2)?;
+    let blank = Blank::new(1);
+    let two = counted::<Brand>(rt.alloc(), &instrs, &places, &trace, blank)?;
     let expected = [
         entry!(Fresh 0 0),
         input(0),
@@ -123,7 +156,8 @@ fn the_page_used_latest_leaves(rt: HostRuntime) -> Result<(), Fail> {
     Ok(())
 }
 
-// In one frame a page is saved where it leaves with a value that was put in it since it came, and only then.
+// In one frame a page is saved where it leaves with a value that was put in it since it came, and
+// only then.
 #[test]
 fn a_clean_page_is_not_saved(rt: HostRuntime) -> Result<(), Fail> {
     let instrs = [
@@ -154,7 +188,8 @@ fn a_clean_page_is_not_saved(rt: HostRuntime) -> Result<(), Fail> {
     Ok(())
 }
 
-// `input c; input a; input b; output mux(c, a, b);` with a bit and two numbers: four pages at instruction 3.
+// `input c; input a; input b; output mux(c, a, b);` with a bit and two numbers: four pages at
+// instruction 3.
 #[test]
 fn four_pages_at_once(rt: HostRuntime) -> Result<(), Fail> {
     let instrs = [
@@ -189,24 +224,50 @@ fn four_pages_at_once(rt: HostRuntime) -> Result<(), Fail> {
     Ok(())
 }
 
-// Two values and their sum on one page.
+// `input a: u8; input b: u64; let c = a + a; let d = b ^ b; output c; output d;`: a and c stand on
+// page 0, b on page 1, d on page 2. Page 0 leaves for page 2 and comes back; page 1 leaves for it
+// with nothing that is used again.
 #[test]
-fn values_side_by_side(rt: HostRuntime) -> Result<(), Fail> {
+fn a_page_comes_back(rt: HostRuntime) -> Result<(), Fail> {
     let instrs = [
         instr!(Input 8 0 0 0),
-        instr!(Input 8 0 0 0),
-        instr!(Add 8 0 1 0),
+        instr!(Input 64 0 0 0),
+        instr!(Add 8 0 0 0),
+        instr!(Xor 64 1 1 0),
+        instr!(Output 8 2 0 0),
+        instr!(Output 64 3 0 0),
     ];
-    let places = [at!(0 0), at!(0 8), at!(0 16)];
-    let trace = [pages!(0), pages!(0), pages!(0)];
-    let list = replaced(rt.alloc(), &instrs, &places, &trace, 1)?;
+    let places = [at!(0 0), at!(1 0), at!(0 8), at!(2 0), at!(0 0), at!(0 0)];
+    let trace = [
+        pages!(0),
+        pages!(1),
+        pages!(0),
+        pages!(1 2),
+        pages!(0),
+        pages!(2),
+    ];
+    let tight = Tight::Frames {
+        instr: 3,
+        needs: 2,
+        has: 1,
+    };
+    let one = replaced(rt.alloc(), &instrs, &places, &trace, 1).err();
+    assert_eq!(rt; one, Some(ReplaceError::Tight(tight)));
+    let two = replaced(rt.alloc(), &instrs, &places, &trace, 2)?;
     let expected = [
         entry!(Fresh 0 0),
         job(Op::Input, 8, (0, 0), [(0, 0); 3]),
-        job(Op::Input, 8, (0, 8), [(0, 0); 3]),
-        job(Op::Add, 8, (0, 16), [(0, 0), (0, 8), (0, 0)]),
+        entry!(Fresh 1 1),
+        input(1),
+        job(Op::Add, 8, (0, 8), [(0, 0), (0, 0), (0, 0)]),
+        entry!(Save 0 0),
+        entry!(Fresh 0 2),
+        job(Op::Xor, 64, (0, 0), [(1, 0), (1, 0), (0, 0)]),
+        entry!(Load 1 0),
+        job(Op::Output, 8, (0, 0), [(1, 8), (0, 0), (0, 0)]),
+        output(0),
     ];
-    assert_eq!(rt; list.as_slice(), expected.as_slice());
+    assert_eq!(rt; two.as_slice(), expected.as_slice());
     Ok(())
 }
 
@@ -240,7 +301,8 @@ fn step_of(set: usize) -> Step
 fn inputs_of(alloc: Global, sets: &[usize]) -> Result<Inputs, Memory>
     requires { length sets.now ≤ 8 }
     ensures trace { IfOk result (λ inputs. IsTrace inputs.trace.items) }
-    ensures places { IfOk result (λ inputs. FitsTrace inputs.instrs.items inputs.places.items inputs.trace.items) }
+    ensures places { IfOk result (λ inputs.
+        FitsTrace inputs.instrs.items inputs.places.items inputs.trace.items) }
 {
     let (mut instrs, mut places, mut trace) = (Vec::new(alloc), Vec::new(alloc), Vec::new(alloc));
     for set in sets {
@@ -262,7 +324,8 @@ fn inputs_of(alloc: Global, sets: &[usize]) -> Result<Inputs, Memory>
 // The loads of the list, or `None` where a step doesn't fit the frames.
 fn loads(alloc: Global, inputs: &Inputs, frames: u32) -> Result<Option<u64>, Memory>
     requires trace { IsTrace inputs.now.trace.items }
-    requires places { FitsTrace inputs.now.instrs.items inputs.now.places.items inputs.now.trace.items }
+    requires places { FitsTrace inputs.now.instrs.items inputs.now.places.items
+        inputs.now.trace.items }
     requires frames { frames ≤ 65536 }
 {
     let list = replaced(alloc, &inputs.instrs, &inputs.places, &inputs.trace, frames);
@@ -280,8 +343,9 @@ fn count_loads(list: &[Replaced]) -> u64 {
     loads.count() as u64
 }
 
-// The reads of the best plan for steps with these sets of pages, or `None` where there is no plan: every set of pages is
-// tried behind every other. `fewest` has, for each set, the reads of the best plan so far that ends with it.
+// The reads of the best plan for steps with these sets of pages, or `None` where there is no plan:
+// every set of pages is tried behind every other. `fewest` has, for each set, the reads of the best
+// plan so far that ends with it.
 fn fewest_reads(sets: &[usize], frames: u32) -> Option<u64> {
     let mut fewest = [u64::MAX; 16];
     fewest[0] = 0;

@@ -6,6 +6,8 @@ use Rattle.mage_belady.proofs.costs.coming_back.Given as goal
 
 abbrev pub invariant-loop-page : goal.invariant-loop-page
 invariant-loop-page l = record {
-  count : l.count + how_many (λ page. contains nat_eq l.seen page && not (is_in page l.before)) (drop l.page-index l.set) ≡ how_many (λ page. contains nat_eq l.seen page && not (is_in page l.before)) l.set;
+  count : l.count + how_many (λ page. contains nat_eq l.seen page && not (is_in page l.before))
+      (drop l.page-index l.set)
+      ≡ how_many (λ page. contains nat_eq l.seen page && not (is_in page l.before)) l.set;
   bound : l.count ≤ l.page-index;
 }

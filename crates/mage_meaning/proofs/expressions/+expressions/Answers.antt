@@ -1,5 +1,5 @@
 use Rattle.std.proofs.Common.{rules}
-use Rattle.mage_syntax.specs.declared.tree.Expr.{the_lemmas}
+use Rattle.mage_tree.specs.declared.tree.Expr.{the_lemmas}
 use Rattle.mage_meaning.specs.Run.{moment_of}
 use Rattle.mage_meaning.proofs.TreeLemmas.{number_of_expr-chain, number_of_expr-mux}
 use Rattle.mage_meaning.proofs.expressions.+expressions.Goals as goal

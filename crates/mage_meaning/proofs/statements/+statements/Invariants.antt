@@ -1,5 +1,5 @@
 use Rattle.std.proofs.Common.{◌≡◌, map, drop}
-use Rattle.mage_unroll.specs.Statements.{distance}
+use Rattle.mage_constants.specs.Ranges.{distance}
 use Rattle.mage_meaning.specs.Run.{moment_of}
 use Rattle.mage_meaning.specs.Value.{all_changes, turns, change_of}
 use Rattle.mage_meaning.proofs.statements.+statements.Given as goal

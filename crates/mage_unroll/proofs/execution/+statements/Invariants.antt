@@ -1,5 +1,6 @@
 use Rattle.std.proofs.Common.{◌≡◌, map, drop}
-use Rattle.mage_unroll.specs.Statements.{all_acts, turns, distance, executed}
+use Rattle.mage_constants.specs.Ranges.{distance}
+use Rattle.mage_unroll.specs.Statements.{all_acts, turns, executed}
 use Rattle.mage_unroll.specs.Unroller.{state_of}
 use Rattle.mage_unroll.proofs.execution.+statements.Given as goal
 

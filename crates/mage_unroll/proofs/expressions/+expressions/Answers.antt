@@ -1,5 +1,5 @@
 use Rattle.std.proofs.Common.{rules}
-use Rattle.mage_syntax.specs.declared.tree.Expr.{the_lemmas}
+use Rattle.mage_tree.specs.declared.tree.Expr.{the_lemmas}
 use Rattle.mage_unroll.specs.Unroller.{state_of}
 use Rattle.mage_unroll.proofs.Trees.{variable_of-chain}
 use Rattle.mage_unroll.proofs.expressions.+expressions.Goals as goal

@@ -1,5 +1,5 @@
 use Rattle.std.proofs.Common.{◌≡◌, ◌++◌, drop}
-use Rattle.mage_unroll.specs.Unrolled.{own_instrs}
+use Rattle.mage_linked.specs.Emission.{own_instrs}
 use Rattle.mage_unroll.proofs.unrolled.own_instrs.Given as goal
 
 abbrev pub invariant-loop-entry : goal.invariant-loop-entry

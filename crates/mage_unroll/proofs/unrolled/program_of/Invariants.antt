@@ -1,5 +1,6 @@
 use Rattle.std.proofs.Common.{◌≡◌, map}
-use Rattle.mage_unroll.specs.Unrolled.{own_instrs, below}
+use Rattle.mage_linked.specs.Emission.{own_instrs}
+use Rattle.mage_linked.specs.Workers.{below}
 use Rattle.mage_unroll.proofs.unrolled.program_of.Given as goal
 
 abbrev pub invariant-loop-worker : goal.invariant-loop-worker

@@ -1,7 +1,7 @@
 use Rattle.std.proofs.Common.{◌∙◌, sym, ap, List}
 use Rattle.std.proofs.lemmas.List.{get_or-replicate}
-use Rattle.mage_unroll.specs.declared.state.Emitted.{Emitted}
-use Rattle.mage_unroll.specs.State.{count_of}
+use Rattle.mage_linked.specs.declared.emitted.Emitted.{Emitted}
+use Rattle.mage_linked.specs.Emission.{count_of}
 use Rattle.mage_unroll.proofs.emission.Emission.none.Goals as goal
 
 pub invariant_of-result : goal.invariant_of-result

@@ -1,0 +1,4 @@
+pub mod Answer
+pub mod Tokens
+pub mod Ranges
+pub mod Constants

@@ -1,0 +1,4 @@
+pub mod WorkerLemmas
+pub mod EmissionLemmas
+pub mod LinkedLemmas
+pub mod TransferLemmas

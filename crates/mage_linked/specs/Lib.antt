@@ -1,0 +1,4 @@
+pub mod Workers
+pub mod Emission
+pub mod Transfers
+pub mod Linked

@@ -1,6 +1,0 @@
-/// Who an input value comes from.
-#[derive(Clone, Copy, Debug, PartialEq, Eq)]
-pub enum Party {
-    Garbler,
-    Evaluator,
-}
