@@ -15,11 +15,15 @@ use Rattle.mage_planner.specs.Answer.{Answers, AnswersRefusal, Works, ComesFrom,
 
 -- the status of a refusal is none of Ok
 answers : (steady : Bool) (outcome : Result Done Refusal) (before after : DeskTold) (why : Refusal)
-    → AnswersRefusal steady outcome (status_of why) before after why → Answers steady outcome (status_of why) before after
+    → AnswersRefusal steady outcome (status_of why) before after why
+    → Answers steady outcome (status_of why) before after
 answers steady outcome before after refusal.Words h = (refusal.Words, h)
-answers steady outcome before after (refusal.Language kind line column) h = (refusal.Language kind line column, h)
-answers steady outcome before after (refusal.Limits worker tight) h = (refusal.Limits worker tight, h)
-answers steady outcome before after (refusal.InputLine party line) h = (refusal.InputLine party line, h)
+answers steady outcome before after (refusal.Language kind line column) h =
+    (refusal.Language kind line column, h)
+answers steady outcome before after (refusal.Limits worker tight) h =
+    (refusal.Limits worker tight, h)
+answers steady outcome before after (refusal.InputLine party line) h =
+    (refusal.InputLine party line, h)
 answers steady outcome before after (refusal.InputTooLong party) h = (refusal.InputTooLong party, h)
 answers steady outcome before after refusal.Desk h = (refusal.Desk, h)
 answers steady outcome before after refusal.Memory h = (refusal.Memory, h)
@@ -30,11 +34,13 @@ others_stay written None = refl
 others_stay written (Some files) = λ name other. refl
 
 -- a refusal other than the desk's fault leaves what want of memory leaves
-stops : (outcome : Result Done Refusal) (why : Refusal) (before after : DeskTold) → (why ≡ refusal.Desk → ⊥)
+stops : (outcome : Result Done Refusal) (why : Refusal) (before after : DeskTold)
+    → (why ≡ refusal.Desk → ⊥)
     → Leaves outcome why before after → Stops outcome before after
 stops outcome refusal.Desk before after other leaves = absurd (other refl)
 stops outcome refusal.Memory before after other leaves = leaves
-stops outcome why before after other leaves = rw leaves (record { files = others_stay _ before.files; rest = refl })
+stops outcome why before after other leaves =
+    rw leaves (record { files = others_stay _ before.files; rest = refl })
 
 -- what a refusal leaves other than the desk's fault leaves the count of faults
 leaves_count : (why : Refusal) (before after : DeskTold) → (why ≡ refusal.Desk → ⊥)
@@ -60,13 +66,16 @@ own_fits steady outcome desk own comes not has memory = rw comes at has
 
 -- Below: the work was refused between two states of the desk, and then a line was warned.
 module _ (steady : Bool) (own warned : Refusal) (answer : Status) (is : answer ≡ status_of warned)
-    (same : IsOrMemory own warned) (before between after : DeskTold) (warns : WarnsLine (line_of warned) between after)
+    (same : IsOrMemory own warned) (before between after : DeskTold)
+    (warns : WarnsLine (line_of warned) between after)
   where
-    answered : (outcome : Result Done Refusal) → Works {T = Unit {0}} steady outcome (Err own) before between
+    answered : (outcome : Result Done Refusal)
+        → Works {T = Unit {0}} steady outcome (Err own) before between
         → Answers steady outcome answer before after
     answered outcome works = answered_as outcome same works where
       answered_as : (outcome : Result Done Refusal) → IsOrMemory own warned
-          → Works {T = Unit {0}} steady outcome (Err own) before between → Answers steady outcome answer before after
+          → Works {T = Unit {0}} steady outcome (Err own) before between
+          → Answers steady outcome answer before after
       answered_as outcome (inl same) works =
           rw is (answers steady outcome before after warned (record {
             answered = refl;
@@ -86,17 +95,21 @@ module _ (steady : Bool) (own warned : Refusal) (answer : Status) (is : answer �
 
     -- where the files are told
     pub answered_files : (files : Option Files) (outcome : Files → Result Done Refusal)
-        → IfSome files (λ files. Works {T = Unit {0}} steady (outcome files) (Err own) before between)
+        → IfSome files (λ files.
+        Works {T = Unit {0}} steady (outcome files) (Err own) before between)
         → IfSome files (λ files. Answers steady (outcome files) answer before after)
     answered_files files outcome works =
-        IfSome_then files {P = λ files. Works {T = Unit {0}} steady (outcome files) (Err own) before between} works
+        IfSome_then files
+        {P = λ files. Works {T = Unit {0}} steady (outcome files) (Err own) before between} works
         (λ files works. answered (outcome files) works)
 
     -- there is room for the line
-    fits : IsOrMemory own warned → (outcome : Result Done Refusal) → ComesFrom steady outcome own → IsNotDesk own
-        → HasRoom before outcome → length (line_of refusal.Memory) ≤ before.warn_room
+    fits : IsOrMemory own warned → (outcome : Result Done Refusal)
+        → ComesFrom steady outcome own → IsNotDesk own → HasRoom before outcome
+        → length (line_of refusal.Memory) ≤ before.warn_room
         → length (line_of warned) ≤ before.warn_room
-    fits (inl same) outcome comes not has memory = rw same (own_fits steady outcome before own comes not has memory)
+    fits (inl same) outcome comes not has memory =
+        rw same (own_fits steady outcome before own comes not has memory)
     fits (inr memory_is) outcome comes not has memory = rw memory_is.0 memory
 
     -- the line's refusal isn't the desk's fault
@@ -105,11 +118,14 @@ module _ (steady : Bool) (own warned : Refusal) (answer : Status) (is : answer �
     warned_not_desk (inr e) not desk = cc
 
     -- a steady desk with the files and the room doesn't fail
-    pub steady_files : (files : Option Files) (outcome : Files → Result Done Refusal) → IsTrue before.steady
-        → RefusalCounted before.faults between.faults own → between.steady ≡ before.steady
+    pub steady_files : (files : Option Files) (outcome : Files → Result Done Refusal)
+        → IsTrue before.steady → RefusalCounted before.faults between.faults own
+        → between.steady ≡ before.steady
         → between.warn_room ≡ before.warn_room
-        → IfSome files (λ files. IsNoDeskFault (outcome files) → HasRoom before (outcome files) → IsNotDesk own)
-        → IfSome files (λ files. Works {T = Unit {0}} steady (outcome files) (Err own) before between)
+        → IfSome files (λ files.
+        IsNoDeskFault (outcome files) → HasRoom before (outcome files) → IsNotDesk own)
+        → IfSome files (λ files.
+        Works {T = Unit {0}} steady (outcome files) (Err own) before between)
         → IfSome files (λ files. IsNoDeskFault (outcome files) → HasRoom before (outcome files)
         → length (line_of refusal.Memory) ≤ before.warn_room
         → (after.faults ≡ before.faults) × (answer ≢ status.Desk))

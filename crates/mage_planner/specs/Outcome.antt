@@ -1,6 +1,7 @@
 -- What a command comes to, in the order of work.
 use Rattle.std.specs.Prelude.{ℕ, List, [], length, Option, Some, None, Result, Ok, Err, ok_or, nat_lt, if◌then◌else◌}
 use Rattle.mage_base.specs.Desk.{Files}
+use Rattle.mage_chains.specs.Chains.{◌>>=◌}
 use Rattle.mage_instr.specs.declared.replaced.Limits.{Limits}
 use Rattle.mage_lex.specs.declared.fault.LangFault.{LangFault}
 use Rattle.mage_lex.specs.declared.fault.LangFault.TheVariants as lang
@@ -80,11 +81,6 @@ pub record Done : Type 0 where
 -- it says a text, and writes no file
 abbrev pub says : List ℕ → Done
 says text = record { said = text; files = [] }
-
-infixl 10 ◌>>=◌
-abbrev pub ◌>>=◌ : {A B : Type 0} → Result A Refusal → (A → Result B Refusal) → Result B Refusal
-(Ok x) >>= f = f x
-(Err e) >>= f = Err e
 
 -- the bytes of a file, or what its length or its absence is answered with
 abbrev pub bytes_or : Refusal → File → Result (List ℕ) Refusal

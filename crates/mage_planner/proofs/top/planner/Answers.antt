@@ -26,3 +26,15 @@ returns-in-Err-clause-steady g c = λ steady.
     c.refuse.ensures.warns _ (λ files. outcome_in files (bytes_of_words c.args.words.now)) steady c.in-Err.ensures.cause
     (ap (λ desk. desk.steady) c.in-Err.ensures.rest) (ap (λ desk. desk.warn_room) c.in-Err.ensures.rest)
     (c.in-Err.ensures.steady steady) c.in-Err.ensures.told
+
+pub returns-in-Ok-clause-reading : goal.returns-in-Ok-clause-reading
+returns-in-Ok-clause-reading g c = reading_is_the_grammar
+
+pub returns-in-Err-clause-reading : goal.returns-in-Err-clause-reading
+returns-in-Err-clause-reading g c = reading_is_the_grammar
+
+pub returns-in-Ok-clause-fewest : goal.returns-in-Ok-clause-fewest
+returns-in-Ok-clause-fewest g c = reads_are_least
+
+pub returns-in-Err-clause-fewest : goal.returns-in-Err-clause-fewest
+returns-in-Err-clause-fewest g c = reads_are_least
