@@ -1,95 +1,138 @@
 -- A refusal whose line is warned is what the call answers.
-use Rattle.std.proofs.Common.{◌≡◌, ◌≢◌, ◌≤◌, ℕ, List, length, Option, Some, None, Result, Err, refl, sym, ◌∙◌, inl, inr}
+use Rattle.std.proofs.Common.{◌≡◌, ◌≢◌, ◌≤◌, List, length, Bool, IsTrue, Option, Some, None, Result, Err, refl, sym, ◌∙◌, inl, inr}
+use Rattle.std.specs.Option.{IfSome}
+use Rattle.std.proofs.lemmas.Option.{IfSome_then}
+use Rattle.mage_base.specs.Desk.{DeskTold, Files}
 use Rattle.mage_planner.specs.declared.refusal.Refusal.{Refusal}
 use Rattle.mage_planner.specs.declared.refusal.Refusal.TheVariants as refusal
 use Rattle.mage_planner.specs.declared.status.Status.{Status}
 use Rattle.mage_planner.specs.declared.status.Status.TheVariants as status
 use Rattle.mage_planner.specs.Lines.{status_of, line_of}
-use Rattle.mage_planner.specs.Warned.{Grows, Warned, IsOrMemory}
-use Rattle.std.specs.Option.{IfSome}
-use Rattle.std.proofs.lemmas.Option.{IfSome_then}
-use Rattle.mage_base.specs.Desk.{Files}
-use Rattle.mage_planner.specs.Answer.{Says, Refuses, IsNotDesk, RefusalCounted, RefusalLeaves, Told, AnswersRefusal, Answers, HasRoom}
+use Rattle.mage_planner.specs.Outcome.{Done, NewFile}
+use Rattle.mage_planner.specs.Steps.{IsNotDesk, IsNoDeskFault, RefusalCounted}
+use Rattle.mage_planner.specs.Warned.{WarnsLine, IsOrMemory}
+use Rattle.mage_planner.specs.Answer.{Answers, AnswersRefusal, Works, ComesFrom, Leaves, Stops, OthersStay, HasRoom}
 
 -- the status of a refusal is none of Ok
-answers : (outcome : Result (List ℕ) Refusal) (before after : Told) (why : Refusal) → AnswersRefusal outcome (status_of why) before after why → Answers outcome (status_of why) before after
-answers outcome before after refusal.Words h = (refusal.Words, h)
-answers outcome before after (refusal.Language kind line column) h = (refusal.Language kind line column, h)
-answers outcome before after (refusal.Limits worker tight) h = (refusal.Limits worker tight, h)
-answers outcome before after (refusal.InputLine party line) h = (refusal.InputLine party line, h)
-answers outcome before after (refusal.InputTooLong party) h = (refusal.InputTooLong party, h)
-answers outcome before after refusal.Desk h = (refusal.Desk, h)
-answers outcome before after refusal.Memory h = (refusal.Memory, h)
+answers : (steady : Bool) (outcome : Result Done Refusal) (before after : DeskTold) (why : Refusal)
+    → AnswersRefusal steady outcome (status_of why) before after why
+    → Answers steady outcome (status_of why) before after
+answers steady outcome before after refusal.Words h = (refusal.Words, h)
+answers steady outcome before after (refusal.Language kind line column) h =
+    (refusal.Language kind line column, h)
+answers steady outcome before after (refusal.Limits worker tight) h =
+    (refusal.Limits worker tight, h)
+answers steady outcome before after (refusal.InputLine party line) h =
+    (refusal.InputLine party line, h)
+answers steady outcome before after (refusal.InputTooLong party) h = (refusal.InputTooLong party, h)
+answers steady outcome before after refusal.Desk h = (refusal.Desk, h)
+answers steady outcome before after refusal.Memory h = (refusal.Memory, h)
 
--- a refusal other than the desk's fault leaves what was said
-leaves_all : (outcome : Result (List ℕ) Refusal) (why : Refusal) (before after : Option (List ℕ)) → (why ≡ refusal.Desk → ⊥) → RefusalLeaves outcome why before after → after ≡ before
-leaves_all outcome refusal.Desk before after other leaves = absurd (other refl)
-leaves_all outcome why before after other leaves = leaves
+-- files that stay
+others_stay : (written : List NewFile) (files : Option Files) → OthersStay written files files
+others_stay written None = refl
+others_stay written (Some files) = λ name other. refl
 
--- and the count of faults
-leaves_count : (why : Refusal) (before now : ℕ) → (why ≡ refusal.Desk → ⊥) → RefusalCounted before now why → now ≡ before
-leaves_count refusal.Desk before now other counted = absurd (other refl)
-leaves_count why before now other counted = counted
+-- a refusal other than the desk's fault leaves what want of memory leaves
+stops : (outcome : Result Done Refusal) (why : Refusal) (before after : DeskTold)
+    → (why ≡ refusal.Desk → ⊥)
+    → Leaves outcome why before after → Stops outcome before after
+stops outcome refusal.Desk before after other leaves = absurd (other refl)
+stops outcome refusal.Memory before after other leaves = leaves
+stops outcome why before after other leaves =
+    rw leaves (record { files = others_stay _ before.files; rest = refl })
 
--- the refusal of the work is answered, or want of memory for its line
-pub answers_refusal : (outcome : Result (List ℕ) Refusal) (before after : Told) (own warned : Refusal) (answer : Status) (count : ℕ)
-    → IsOrMemory own warned → answer ≡ status_of warned → Refuses own outcome → RefusalLeaves outcome own before.said after.said
-    → RefusalCounted before.faults count own → count ≤ after.faults → Grows before.warned after.warned (Warned (line_of warned) count after.faults)
-    → Answers outcome answer before after
-answers_refusal outcome before after own warned answer count (inl same) is refuses leaves counted rises grows =
-    rw is (answers outcome before after warned (refl, rw same refuses, rw same leaves, (count, rw same counted, rises, grows)))
-answers_refusal outcome before after own warned answer count (inr memory) is refuses leaves counted rises grows =
-    rw (is, memory.0) (answers outcome before after refusal.Memory (
-      refl,
-      tt,
-      leaves_all outcome own before.said after.said memory.1 leaves,
-      (count, leaves_count own before.faults count memory.1 counted, rises, rw memory.0 at grows),
-    ))
+-- what a refusal leaves other than the desk's fault leaves the count of faults
+leaves_count : (why : Refusal) (before after : DeskTold) → (why ≡ refusal.Desk → ⊥)
+    → RefusalCounted before.faults after.faults why → after.faults ≡ before.faults
+leaves_count refusal.Desk before after other counted = absurd (other refl)
+leaves_count why before after other counted = counted
+
+not_desk : (why : Refusal) → IsNotDesk why → why ≡ refusal.Desk → ⊥
+not_desk refusal.Desk not same = not
+not_desk why not same = cc
+
+desk_status : (why : Refusal) → status_of why ≡ status.Desk → why ≡ refusal.Desk
+desk_status refusal.Desk e = refl
+desk_status why e = cc
 
 -- there is room for the line of a refusal other than the desk's fault
-own_fits : (outcome : Result (List ℕ) Refusal) (room warn_room : ℕ) (own : Refusal) → Refuses own outcome → IsNotDesk own → HasRoom room warn_room outcome → length (line_of refusal.Memory) ≤ warn_room → length (line_of own) ≤ warn_room
-own_fits outcome room warn_room refusal.Desk refuses not_desk has memory = absurd not_desk
-own_fits outcome room warn_room refusal.Memory refuses not_desk has memory = memory
-own_fits outcome room warn_room own refuses not_desk has memory = rw refuses at has
+own_fits : (steady : Bool) (outcome : Result Done Refusal) (desk : DeskTold) (own : Refusal)
+    → ComesFrom steady outcome own → IsNotDesk own → HasRoom desk outcome
+    → length (line_of refusal.Memory) ≤ desk.warn_room → length (line_of own) ≤ desk.warn_room
+own_fits steady outcome desk refusal.Desk comes not has memory = absurd not
+own_fits steady outcome desk refusal.Memory comes not has memory = memory
+own_fits steady outcome desk own comes not has memory = rw comes at has
 
-pub line_fits : (outcome : Result (List ℕ) Refusal) (room warn_room : ℕ) (own warned : Refusal) → IsOrMemory own warned → Refuses own outcome → IsNotDesk own → HasRoom room warn_room outcome → length (line_of refusal.Memory) ≤ warn_room → length (line_of warned) ≤ warn_room
-line_fits outcome room warn_room own warned (inl same) refuses not_desk has memory = rw same (own_fits outcome room warn_room own refuses not_desk has memory)
-line_fits outcome room warn_room own warned (inr memory_is) refuses not_desk has memory = rw memory_is.0 memory
+-- Below: the work was refused between two states of the desk, and then a line was warned.
+module _ (steady : Bool) (own warned : Refusal) (answer : Status) (is : answer ≡ status_of warned)
+    (same : IsOrMemory own warned) (before between after : DeskTold)
+    (warns : WarnsLine (line_of warned) between after)
+  where
+    answered : (outcome : Result Done Refusal)
+        → Works {T = Unit {0}} steady outcome (Err own) before between
+        → Answers steady outcome answer before after
+    answered outcome works = answered_as outcome same works where
+      answered_as : (outcome : Result Done Refusal) → IsOrMemory own warned
+          → Works {T = Unit {0}} steady outcome (Err own) before between
+          → Answers steady outcome answer before after
+      answered_as outcome (inl same) works =
+          rw is (answers steady outcome before after warned (record {
+            answered = refl;
+            comes = rw same works.0;
+            between = between;
+            leaves = rw same works.1;
+            warns = warns;
+          }))
+      answered_as outcome (inr memory) works =
+          rw (is, memory.0) (answers steady outcome before after refusal.Memory (record {
+            answered = refl;
+            comes = tt;
+            between = between;
+            leaves = stops outcome own before between memory.1 works.1;
+            warns = rw memory.0 at warns;
+          }))
 
--- Below: what a desk told before the call, when the work had been refused, and after its line was warned.
-module _ (own warned : Refusal) (answer : Status) (is : answer ≡ status_of warned) (same : IsOrMemory own warned)
-    (said_before said_then said_after warned_before warned_then warned_after : Option (List ℕ)) (before count after : ℕ)
-    (said : said_after ≡ said_then) (quiet : warned_then ≡ warned_before) (counted : RefusalCounted before count own) (rises : count ≤ after)
-    (grows : Grows warned_then warned_after (Warned (line_of warned) count after)) where
-  pub answered : (outcome : Result (List ℕ) Refusal) → Says {T = Unit {0}} outcome (Err own) said_before said_then
-      → Answers outcome answer (record { said = said_before; warned = warned_before; faults = before }) (record { said = said_after; warned = warned_after; faults = after })
-  answered outcome says = answers_refusal outcome _ _ own warned answer count same is says.0 (rw said says.1) counted rises (rw (← quiet) grows)
+    -- where the files are told
+    pub answered_files : (files : Option Files) (outcome : Files → Result Done Refusal)
+        → IfSome files (λ files.
+        Works {T = Unit {0}} steady (outcome files) (Err own) before between)
+        → IfSome files (λ files. Answers steady (outcome files) answer before after)
+    answered_files files outcome works =
+        IfSome_then files
+        {P = λ files. Works {T = Unit {0}} steady (outcome files) (Err own) before between} works
+        (λ files works. answered (outcome files) works)
 
-  pub answered_files : (files : Option Files) (outcome : Files → Result (List ℕ) Refusal) → IfSome files (λ files. Says {T = Unit {0}} (outcome files) (Err own) said_before said_then)
-      → IfSome files (λ files. Answers (outcome files) answer (record { said = said_before; warned = warned_before; faults = before }) (record { said = said_after; warned = warned_after; faults = after }))
-  answered_files files outcome all = IfSome_then files {P = λ files. Says {T = Unit {0}} (outcome files) (Err own) said_before said_then} all (λ files says. answered (outcome files) says)
+    -- there is room for the line
+    fits : IsOrMemory own warned → (outcome : Result Done Refusal)
+        → ComesFrom steady outcome own → IsNotDesk own → HasRoom before outcome
+        → length (line_of refusal.Memory) ≤ before.warn_room
+        → length (line_of warned) ≤ before.warn_room
+    fits (inl same) outcome comes not has memory =
+        rw same (own_fits steady outcome before own comes not has memory)
+    fits (inr memory_is) outcome comes not has memory = rw memory_is.0 memory
 
-  not_desk_after : (why : Refusal) → IsNotDesk why → why ≡ refusal.Desk → ⊥
-  not_desk_after refusal.Desk not same = not
-  not_desk_after why not same = cc
+    -- the line's refusal isn't the desk's fault
+    warned_not_desk : IsOrMemory own warned → IsNotDesk own → warned ≡ refusal.Desk → ⊥
+    warned_not_desk (inl e) not desk = not_desk own not (sym e ∙ desk)
+    warned_not_desk (inr e) not desk = cc
 
-  desk_status : (why : Refusal) → status_of why ≡ status.Desk → why ≡ refusal.Desk
-  desk_status refusal.Desk e = refl
-  desk_status why e = cc
-
-  warned_not_desk : (other other_warned : Refusal) → IsOrMemory other other_warned → IsNotDesk other → other_warned ≡ refusal.Desk → ⊥
-  warned_not_desk other other_warned (inl e) not desk = not_desk_after other not (sym e ∙ desk)
-  warned_not_desk other other_warned (inr e) not desk = cc
-
-  -- a steady desk with the files and the room doesn't fail
-  pub steady_files : (room warn_room : ℕ) (files : Option Files) (outcome : Files → Result (List ℕ) Refusal) (Has : Files → Type 0)
-      → (length (line_of warned) ≤ warn_room → after ≡ count)
-      → IfSome files (λ files. Has files → HasRoom room warn_room (outcome files) → IsNotDesk own)
-      → IfSome files (λ files. Says {T = Unit {0}} (outcome files) (Err own) said_before said_then)
-      → IfSome files (λ files. Has files → HasRoom room warn_room (outcome files) → length (line_of refusal.Memory) ≤ warn_room → (after ≡ before) × (answer ≢ status.Desk))
-  steady_files room warn_room None outcome Has fits not_desk says = tt
-  steady_files room warn_room (Some files) outcome Has fits not_desk says = λ has fit memory.
-      let not = not_desk has fit in (
-        fits (line_fits (outcome files) room warn_room own warned same says.0 not fit memory) ∙ leaves_count own before count (not_desk_after own not) counted,
-        λ desk. warned_not_desk own warned same not (desk_status warned (sym is ∙ desk)),
-      )
+    -- a steady desk with the files and the room doesn't fail
+    pub steady_files : (files : Option Files) (outcome : Files → Result Done Refusal)
+        → IsTrue before.steady → RefusalCounted before.faults between.faults own
+        → between.steady ≡ before.steady
+        → between.warn_room ≡ before.warn_room
+        → IfSome files (λ files.
+        IsNoDeskFault (outcome files) → HasRoom before (outcome files) → IsNotDesk own)
+        → IfSome files (λ files.
+        Works {T = Unit {0}} steady (outcome files) (Err own) before between)
+        → IfSome files (λ files. IsNoDeskFault (outcome files) → HasRoom before (outcome files)
+        → length (line_of refusal.Memory) ≤ before.warn_room
+        → (after.faults ≡ before.faults) × (answer ≢ status.Desk))
+    steady_files None outcome holds counted stays room is_not works = tt
+    steady_files (Some files) outcome holds counted stays room is_not works = λ found has memory.
+        let not = is_not found has in (
+          (warns.steady (rw stays holds) (rw room (fits same (outcome files) works.0 not has memory))).0
+              ∙ leaves_count own before between (not_desk own not) counted,
+          λ desk. warned_not_desk same not (desk_status warned (sym is ∙ desk)),
+        )

@@ -1,32 +1,42 @@
 -- A refusal of a step is one of the whole work.
-use Rattle.std.proofs.Common.{◌≡◌, ℕ, List, Result, Ok, Err, ok_or, ap, ◌∙◌}
-use Rattle.mage_meaning.specs.declared.party.Party.TheVariants as party
+use Rattle.std.proofs.Common.{◌≡◌, ℕ, List, true, Result, Ok, Err, ok_or, ap, ◌∙◌}
+use Rattle.mage_chains.specs.Chains.{◌>>=◌}
+use Rattle.mage_instr.specs.declared.party.Party.TheVariants as party
 use Rattle.mage_pipe.specs.declared.loaded.Loaded.{Loaded}
 use Rattle.mage_pipe.specs.declared.stats.WorkerStats.{WorkerStats}
+use Rattle.mage_words.specs.Words.{SoloRequest, StatsRequest, request_of}
 use Rattle.mage_planner.specs.declared.refusal.Refusal.{Refusal}
 use Rattle.mage_planner.specs.declared.refusal.Refusal.TheVariants as refusal
-use Rattle.mage_words.specs.Words.{Request, SoloRequest, StatsRequest, request_of}
 use Rattle.mage_planner.specs.SummaryText.{summary_text}
-use Rattle.mage_planner.specs.Outcome.{File, Absent, Found, ◌>>=◌, source_of, costs_of, planned_of, numbers_of, said_of, solo_outcome, stats_outcome, outcome_for, outcome_of}
-use Rattle.mage_planner.specs.Answer.{Refuses}
+use Rattle.mage_planner.specs.Outcome.{File, Absent, Found, Done, says, source_of, costs_of, planned_of, numbers_of, said_of, solo_outcome, stats_outcome, outcome_for, outcome_of}
+use Rattle.mage_planner.specs.Steps.{Refuses}
+
+-- ---- chains
 
 -- what is refused as a step is, where the step's refusal is the work's
-pub Refuses-map : {T U : Type 0} (s : Refusal) (a : Result T Refusal) (b : Result U Refusal) → (a ≡ Err s → b ≡ Err s) → Refuses s a → Refuses s b
-Refuses-map refusal.Desk a b f r = tt
-Refuses-map refusal.Memory a b f r = tt
-Refuses-map other a b f r = f r
+refused_so : {T U : Type 0} (s : Refusal) (a : Result T Refusal) (b : Result U Refusal)
+    → (a ≡ Err s → b ≡ Err s) → Refuses true s a → Refuses true s b
+refused_so refusal.Desk a b f r = λ sure. f (r sure)
+refused_so refusal.Memory a b f r = tt
+refused_so other a b f r = f r
 
--- ---- `solo`
+-- the first step is refused
+at_first : {T U : Type 0} (s : Refusal) (r : Result T Refusal) (f : T → Result U Refusal)
+    → Refuses true s r → Refuses true s (r >>= f)
+at_first s r f refused = refused_so s r (r >>= f) (λ e. ap (λ step. step >>= f) e) refused
 
--- what comes after the garbler's numbers
-abbrev then_evaluator : Loaded → File → List (List ℕ) → Result (List ℕ) Refusal
-then_evaluator loaded evaluator garbler = numbers_of party.Evaluator loaded evaluator >>= (λ numbers. Ok (said_of loaded (record { garbler = garbler; evaluator = numbers })))
+-- the first step is done, and what comes after it is refused
+after_first : {T U : Type 0} (s : Refusal) (r : Result T Refusal) (x : T) (f : T → Result U Refusal)
+    → r ≡ Ok x → Refuses true s (f x) → Refuses true s (r >>= f)
+after_first s r x f done refused = refused_so s (f x) (r >>= f) (λ e. ap (λ step. step >>= f) done ∙ e) refused
 
--- what comes after the source
-abbrev then_garbler : File → File → Loaded → Result (List ℕ) Refusal
-then_garbler garbler evaluator loaded = numbers_of party.Garbler loaded garbler >>= then_evaluator loaded evaluator
+-- both are done
+both_done : {T U : Type 0} (r : Result T Refusal) (x : T) (f : T → Result U Refusal) (y : U)
+    → r ≡ Ok x → f x ≡ Ok y → (r >>= f) ≡ Ok y
+both_done r x f y done done_too = ap (λ step. step >>= f) done ∙ done_too
 
--- the files of a command that read no more than its source, its source and the garbler's text, or all three
+-- ---- what is found where no more is read than the source, the source and the garbler's text, or all three
+
 abbrev pub only_source : File → Found
 only_source file = record { source = file; garbler = Absent; evaluator = Absent }
 
@@ -34,73 +44,107 @@ abbrev pub source_garbler : File → File → Found
 source_garbler source garbler = record { source = source; garbler = garbler; evaluator = Absent }
 
 abbrev pub all_three : File → File → File → Found
-all_three source garbler evaluator = record { source = source; garbler = garbler; evaluator = evaluator }
+all_three source garbler evaluator =
+    record { source = source; garbler = garbler; evaluator = evaluator }
+
+-- ---- `solo`
+
+-- what comes after the evaluator's numbers
+abbrev to_outputs : Loaded → (garbler evaluator : List (List ℕ)) → Result Done Refusal
+to_outputs loaded garbler evaluator =
+    Ok (says (said_of loaded (record { garbler = garbler; evaluator = evaluator })))
+
+-- what comes after the garbler's numbers
+abbrev to_evaluator : Loaded → File → (garbler : List (List ℕ)) → Result Done Refusal
+to_evaluator loaded evaluator garbler =
+    numbers_of party.Evaluator loaded evaluator >>= to_outputs loaded garbler
+
+-- what comes after the source
+abbrev to_garbler : (garbler evaluator : File) → Loaded → Result Done Refusal
+to_garbler garbler evaluator loaded =
+    numbers_of party.Garbler loaded garbler >>= to_evaluator loaded evaluator
 
 -- the source is refused
-pub solo-source : (solo : SoloRequest) (file : File) (s : Refusal) → Refuses s (planned_of solo.limits file) → Refuses s (solo_outcome (only_source file) solo)
+pub solo-source : (solo : SoloRequest) (file : File) (s : Refusal)
+    → Refuses true s (planned_of solo.limits file) → Refuses true s (solo_outcome (only_source file) solo)
 unfolding solo_outcome
 solo-source solo file s refused =
-    Refuses-map s (planned_of solo.limits file) (planned_of solo.limits file >>= then_garbler Absent Absent) (λ e. ap (λ (r : Result Loaded Refusal). r >>= then_garbler Absent Absent) e) refused
+    at_first s (planned_of solo.limits file) (to_garbler Absent Absent) refused
 
 -- the garbler's text is refused
-pub solo-garbler : (solo : SoloRequest) (file garbler : File) (loaded : Loaded) (s : Refusal) → planned_of solo.limits file ≡ Ok loaded → Refuses s (numbers_of party.Garbler loaded garbler) → Refuses s (solo_outcome (source_garbler file garbler) solo)
+pub solo-garbler : (solo : SoloRequest) (file garbler : File) (loaded : Loaded) (s : Refusal)
+    → planned_of solo.limits file ≡ Ok loaded → Refuses true s (numbers_of party.Garbler loaded garbler)
+    → Refuses true s (solo_outcome (source_garbler file garbler) solo)
 unfolding solo_outcome
 solo-garbler solo file garbler loaded s planned refused =
-    Refuses-map s (numbers_of party.Garbler loaded garbler) (planned_of solo.limits file >>= then_garbler garbler Absent)
-    (λ e. ap (λ (r : Result Loaded Refusal). r >>= then_garbler garbler Absent) planned
-    ∙ ap (λ (r : Result (List (List ℕ)) Refusal). r >>= then_evaluator loaded Absent) e)
-    refused
+    after_first s (planned_of solo.limits file) loaded (to_garbler garbler Absent) planned
+    (at_first s (numbers_of party.Garbler loaded garbler) (to_evaluator loaded Absent) refused)
 
 -- the evaluator's text is refused
-pub solo-evaluator : (solo : SoloRequest) (file garbler evaluator : File) (loaded : Loaded) (numbers : List (List ℕ)) (s : Refusal) → planned_of solo.limits file ≡ Ok loaded → numbers_of party.Garbler loaded garbler ≡ Ok numbers → Refuses s (numbers_of party.Evaluator loaded evaluator) → Refuses s (solo_outcome (all_three file garbler evaluator) solo)
+pub solo-evaluator : (solo : SoloRequest) (file garbler evaluator : File) (loaded : Loaded)
+    (numbers : List (List ℕ)) (s : Refusal)
+    → planned_of solo.limits file ≡ Ok loaded → numbers_of party.Garbler loaded garbler ≡ Ok numbers
+    → Refuses true s (numbers_of party.Evaluator loaded evaluator)
+    → Refuses true s (solo_outcome (all_three file garbler evaluator) solo)
 unfolding solo_outcome
 solo-evaluator solo file garbler evaluator loaded numbers s planned read refused =
-    Refuses-map s (numbers_of party.Evaluator loaded evaluator) (planned_of solo.limits file >>= then_garbler garbler evaluator)
-    (λ e. ap (λ (r : Result Loaded Refusal). r >>= then_garbler garbler evaluator) planned
-    ∙ ap (λ (r : Result (List (List ℕ)) Refusal). r >>= then_evaluator loaded evaluator) read
-    ∙ ap (λ (r : Result (List (List ℕ)) Refusal). r >>= (λ given. Ok (said_of loaded (record { garbler = numbers; evaluator = given })))) e)
-    refused
+    after_first s (planned_of solo.limits file) loaded (to_garbler garbler evaluator) planned
+    (after_first s (numbers_of party.Garbler loaded garbler) numbers (to_evaluator loaded evaluator) read
+    (at_first s (numbers_of party.Evaluator loaded evaluator) (to_outputs loaded numbers) refused))
 
 -- all is read
-pub solo-all : (solo : SoloRequest) (file garbler evaluator : File) (loaded : Loaded) (numbers given : List (List ℕ)) → planned_of solo.limits file ≡ Ok loaded → numbers_of party.Garbler loaded garbler ≡ Ok numbers → numbers_of party.Evaluator loaded evaluator ≡ Ok given → solo_outcome (all_three file garbler evaluator) solo ≡ Ok (said_of loaded (record { garbler = numbers; evaluator = given }))
+pub solo-all : (solo : SoloRequest) (file garbler evaluator : File) (loaded : Loaded)
+    (numbers given : List (List ℕ))
+    → planned_of solo.limits file ≡ Ok loaded → numbers_of party.Garbler loaded garbler ≡ Ok numbers
+    → numbers_of party.Evaluator loaded evaluator ≡ Ok given
+    → solo_outcome (all_three file garbler evaluator) solo
+    ≡ Ok (says (said_of loaded (record { garbler = numbers; evaluator = given })))
 unfolding solo_outcome
 solo-all solo file garbler evaluator loaded numbers given planned read read_too =
-    ap (λ (r : Result Loaded Refusal). r >>= then_garbler garbler evaluator) planned
-    ∙ ap (λ (r : Result (List (List ℕ)) Refusal). r >>= then_evaluator loaded evaluator) read
-    ∙ ap (λ (r : Result (List (List ℕ)) Refusal). r >>= (λ given. Ok (said_of loaded (record { garbler = numbers; evaluator = given })))) read_too
+    let said = says (said_of loaded (record { garbler = numbers; evaluator = given })) in
+    both_done (planned_of solo.limits file) loaded (to_garbler garbler evaluator) said planned
+    (both_done (numbers_of party.Garbler loaded garbler) numbers (to_evaluator loaded evaluator) said read
+    (ap (λ step. step >>= to_outputs loaded numbers) read_too))
 
 -- ---- `stats`
 
 -- what comes after the costs
-abbrev then_text : Result (List WorkerStats) Refusal → Result (List ℕ) Refusal
-then_text costs = costs >>= (λ workers. Ok (summary_text workers))
+abbrev to_text : List WorkerStats → Result Done Refusal
+to_text workers = Ok (says (summary_text workers))
+
+-- what comes after the source
+abbrev to_costs : StatsRequest → Loaded → Result Done Refusal
+to_costs stats loaded = costs_of stats.limits loaded >>= to_text
 
 -- the source is refused
-pub stats-source : (stats : StatsRequest) (file : File) (s : Refusal) → Refuses s (source_of file) → Refuses s (stats_outcome (only_source file) stats)
+pub stats-source : (stats : StatsRequest) (file : File) (s : Refusal)
+    → Refuses true s (source_of file) → Refuses true s (stats_outcome (only_source file) stats)
 unfolding stats_outcome
-stats-source stats file s refused =
-    Refuses-map s (source_of file) (source_of file >>= (λ loaded. then_text (costs_of stats.limits loaded))) (λ e. ap (λ (r : Result Loaded Refusal). r >>= (λ loaded. then_text (costs_of stats.limits loaded))) e) refused
+stats-source stats file s refused = at_first s (source_of file) (to_costs stats) refused
 
 -- a limit is too low
-pub stats-limits : (stats : StatsRequest) (file : File) (loaded : Loaded) (s : Refusal) → source_of file ≡ Ok loaded → Refuses s (costs_of stats.limits loaded) → Refuses s (stats_outcome (only_source file) stats)
+pub stats-limits : (stats : StatsRequest) (file : File) (loaded : Loaded) (s : Refusal)
+    → source_of file ≡ Ok loaded → Refuses true s (costs_of stats.limits loaded)
+    → Refuses true s (stats_outcome (only_source file) stats)
 unfolding stats_outcome
-stats-limits stats file loaded s source refused =
-    Refuses-map s (costs_of stats.limits loaded) (source_of file >>= (λ loaded. then_text (costs_of stats.limits loaded)))
-    (λ e. ap (λ (r : Result Loaded Refusal). r >>= (λ loaded. then_text (costs_of stats.limits loaded))) source ∙ ap then_text e) refused
+stats-limits stats file loaded s read refused =
+    after_first s (source_of file) loaded (to_costs stats) read
+    (at_first s (costs_of stats.limits loaded) to_text refused)
 
 -- all is counted
-pub stats-all : (stats : StatsRequest) (file : File) (loaded : Loaded) (costs : List WorkerStats) → source_of file ≡ Ok loaded → costs_of stats.limits loaded ≡ Ok costs → stats_outcome (only_source file) stats ≡ Ok (summary_text costs)
+pub stats-all : (stats : StatsRequest) (file : File) (loaded : Loaded) (costs : List WorkerStats)
+    → source_of file ≡ Ok loaded → costs_of stats.limits loaded ≡ Ok costs
+    → stats_outcome (only_source file) stats ≡ Ok (says (summary_text costs))
 unfolding stats_outcome
-stats-all stats file loaded costs source counted =
-    ap (λ (r : Result Loaded Refusal). r >>= (λ loaded. then_text (costs_of stats.limits loaded))) source ∙ ap then_text counted
+stats-all stats file loaded costs read counted =
+    both_done (source_of file) loaded (to_costs stats) (says (summary_text costs)) read
+    (ap (λ step. step >>= to_text) counted)
 
 -- ---- the words
 
--- what comes after the words
-abbrev work_of : Found → Result Request Refusal → Result (List ℕ) Refusal
-work_of found named = named >>= outcome_for found
-
 -- the words ask for nothing
-pub work-words : (found : Found) (words : List (List ℕ)) (s : Refusal) → Refuses s (ok_or (request_of words) refusal.Words) → Refuses s (outcome_of found words)
+pub work-words : (found : Found) (words : List (List ℕ)) (s : Refusal)
+    → Refuses true s (ok_or (request_of words) refusal.Words) → Refuses true s (outcome_of found words)
 unfolding outcome_of
-work-words found words s refused = Refuses-map s (ok_or (request_of words) refusal.Words) (work_of found (ok_or (request_of words) refusal.Words)) (λ e. ap (work_of found) e) refused
+work-words found words s refused =
+    at_first s (ok_or (request_of words) refusal.Words) (outcome_for found) refused

@@ -1,6 +1,7 @@
 pub mod Codes
 pub mod Lines
-pub mod Warned
 pub mod SummaryText
 pub mod Outcome
+pub mod Steps
+pub mod Warned
 pub mod Answer

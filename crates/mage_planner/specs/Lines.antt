@@ -6,8 +6,8 @@ use Rattle.mage_instr.specs.declared.replaced.Tight.{Tight}
 use Rattle.mage_instr.specs.declared.replaced.Tight.TheVariants as tight
 use Rattle.mage_lex.specs.declared.fault.LangKind.{LangKind}
 use Rattle.mage_lex.specs.declared.fault.LangKind.TheVariants as kind
-use Rattle.mage_meaning.specs.declared.party.Party.{Party}
-use Rattle.mage_meaning.specs.declared.party.Party.TheVariants as party
+use Rattle.mage_instr.specs.declared.party.Party.{Party}
+use Rattle.mage_instr.specs.declared.party.Party.TheVariants as party
 use Rattle.mage_planner.specs.declared.refusal.Refusal.{Refusal}
 use Rattle.mage_planner.specs.declared.refusal.Refusal.TheVariants as refusal
 use Rattle.mage_planner.specs.declared.status.Status.{Status}
@@ -48,14 +48,19 @@ abbrev pub tight_parts : Tight → List (List ℕ)
 tight_parts (tight.Frames instr needs has) =
     decimal instr ∷ codes " needs " ∷ decimal needs ∷ codes " pages, has " ∷ decimal has ∷ codes " frames\n" ∷ []
 tight_parts (tight.Buffer instr) = decimal instr ∷ codes " needs a buffer slot\n" ∷ []
+tight_parts (tight.Page instr class) =
+    decimal instr ∷ codes " needs a page of " ∷ decimal class ∷ codes " wires\n" ∷ []
 
 -- the parts of a refusal's line
 abbrev pub line_parts : Refusal → List (List ℕ)
 line_parts refusal.Words = codes "mage: bad words\n" ∷ []
 line_parts (refusal.Language kind line column) =
-    codes "mage: source " ∷ decimal line ∷ codes ":" ∷ decimal column ∷ codes ": " ∷ kind_name kind ∷ codes "\n" ∷ []
-line_parts (refusal.Limits worker tight) = codes "mage: limits: worker " ∷ decimal worker ∷ codes " instruction " ∷ tight_parts tight
-line_parts (refusal.InputLine party line) = codes "mage: input " ∷ party_name party ∷ codes " line " ∷ decimal line ∷ codes "\n" ∷ []
+    codes "mage: source " ∷ decimal line ∷ codes ":" ∷ decimal column ∷ codes ": " ∷ kind_name kind
+    ∷ codes "\n" ∷ []
+line_parts (refusal.Limits worker tight) =
+    codes "mage: limits: worker " ∷ decimal worker ∷ codes " instruction " ∷ tight_parts tight
+line_parts (refusal.InputLine party line) =
+    codes "mage: input " ∷ party_name party ∷ codes " line " ∷ decimal line ∷ codes "\n" ∷ []
 line_parts (refusal.InputTooLong party) = codes "mage: input " ∷ party_name party ∷ codes " too long\n" ∷ []
 line_parts refusal.Desk = codes "mage: desk fault\n" ∷ []
 line_parts refusal.Memory = codes "mage: no memory\n" ∷ []

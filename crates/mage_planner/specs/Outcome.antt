@@ -1,15 +1,16 @@
 -- What a command comes to, in the order of work.
 use Rattle.std.specs.Prelude.{ℕ, List, [], length, Option, Some, None, Result, Ok, Err, ok_or, nat_lt, if◌then◌else◌}
 use Rattle.mage_base.specs.Desk.{Files}
+use Rattle.mage_chains.specs.Chains.{◌>>=◌}
 use Rattle.mage_instr.specs.declared.replaced.Limits.{Limits}
 use Rattle.mage_lex.specs.declared.fault.LangFault.{LangFault}
 use Rattle.mage_lex.specs.declared.fault.LangFault.TheVariants as lang
 use Rattle.mage_lex.specs.declared.fault.LangKind.TheVariants as kind
-use Rattle.mage_meaning.specs.declared.party.Party.{Party}
-use Rattle.mage_meaning.specs.declared.party.Party.TheVariants as party
+use Rattle.mage_instr.specs.declared.party.Party.{Party}
+use Rattle.mage_instr.specs.declared.party.Party.TheVariants as party
 use Rattle.mage_meaning.specs.Given.{Given}
 use Rattle.mage_meaning.specs.Value.{value_of}
-use Rattle.mage_meaning.specs.Widths.{input_widths_of}
+use Rattle.mage_instr.specs.Inputs.{input_widths_of}
 use Rattle.mage_texts.specs.InputText.{inputs_of}
 use Rattle.mage_texts.specs.OutputText.{text_of}
 use Rattle.mage_pipe.specs.declared.loaded.Loaded.{Loaded}
@@ -41,7 +42,7 @@ abbrev pub file_named : Files → Option (List ℕ) → ℕ → File
 file_named files None limit = Held []
 file_named files (Some name) limit = file_at files name limit
 
--- the files that a command reads, as its fetches find them
+-- the files that a command reads, as its fetches find them: one that couldn't be read counts as absent
 pub record Found : Type 0 where
   pub source : File
   pub garbler : File
@@ -54,17 +55,32 @@ found_in files (Solo solo) = record {
   garbler = file_named files solo.garbler 67108864;
   evaluator = file_named files solo.evaluator 67108864;
 }
-found_in files (Stats stats) = record { source = file_at files stats.source 1048576; garbler = Absent; evaluator = Absent }
+found_in files (Stats stats) = record {
+  source = file_at files stats.source 1048576;
+  garbler = Absent;
+  evaluator = Absent;
+}
 
--- where the words name no file, no file is read
+-- where the words ask for nothing, no file is read
 abbrev pub found_for : Files → Option Request → Found
 found_for files None = record { source = Absent; garbler = Absent; evaluator = Absent }
 found_for files (Some request) = found_in files request
 
-infixl 10 ◌>>=◌
-abbrev pub ◌>>=◌ : {A B : Type 0} → Result A Refusal → (A → Result B Refusal) → Result B Refusal
-(Ok x) >>= f = f x
-(Err e) >>= f = Err e
+-- one file that a command writes
+pub record NewFile : Type 0 where
+  pub name : List ℕ
+  pub bytes : List ℕ
+
+-- what a command does that isn't refused
+pub record Done : Type 0 where
+  -- the text that it says
+  pub said : List ℕ
+  -- the files that it writes, in this order
+  pub files : List NewFile
+
+-- it says a text, and writes no file
+abbrev pub says : List ℕ → Done
+says text = record { said = text; files = [] }
 
 -- the bytes of a file, or what its length or its absence is answered with
 abbrev pub bytes_or : Refusal → File → Result (List ℕ) Refusal
@@ -131,31 +147,31 @@ numbers_of whose loaded file = do
 abbrev pub said_of : Loaded → Given → List ℕ
 said_of loaded given = text_of (value_of loaded.source.workers loaded.source.body given)
 
--- what `solo` says: the outputs of the source on the inputs
-unfoldable pub solo_outcome : Found → SoloRequest → Result (List ℕ) Refusal
+-- what `solo` does: it says the outputs of the source on the inputs
+unfoldable pub solo_outcome : Found → SoloRequest → Result Done Refusal
 solo_outcome found solo = do
   loaded ← planned_of solo.limits found.source
   garbler ← numbers_of party.Garbler loaded found.garbler
   evaluator ← numbers_of party.Evaluator loaded found.evaluator
-  Ok (said_of loaded (record { garbler = garbler; evaluator = evaluator }))
+  Ok (says (said_of loaded (record { garbler = garbler; evaluator = evaluator })))
 
--- what `stats` says: the summary
-unfoldable pub stats_outcome : Found → StatsRequest → Result (List ℕ) Refusal
+-- what `stats` does: it says the summary
+unfoldable pub stats_outcome : Found → StatsRequest → Result Done Refusal
 stats_outcome found stats = do
   loaded ← source_of found.source
   costs ← costs_of stats.limits loaded
-  Ok (summary_text costs)
+  Ok (says (summary_text costs))
 
-abbrev pub outcome_for : Found → Request → Result (List ℕ) Refusal
+abbrev pub outcome_for : Found → Request → Result Done Refusal
 outcome_for found (Solo solo) = solo_outcome found solo
 outcome_for found (Stats stats) = stats_outcome found stats
 
--- the files of a command, where they are told
-abbrev pub found_by : Files → List (List ℕ) → Found
-found_by files words = found_for files (request_of words)
-
--- what a command says, or the first refusal in the order of work; an absent file stops it too
-unfoldable pub outcome_of : Found → List (List ℕ) → Result (List ℕ) Refusal
+-- what a command does, or the first refusal in the order of work; an absent file stops it too
+unfoldable pub outcome_of : Found → List (List ℕ) → Result Done Refusal
 outcome_of found words = do
   request ← ok_or (request_of words) refusal.Words
   outcome_for found request
+
+-- what a command comes to on these files
+abbrev pub outcome_in : Files → List (List ℕ) → Result Done Refusal
+outcome_in files words = outcome_of (found_for files (request_of words)) words

@@ -6,9 +6,14 @@ use Rattle.mage_pipe.specs.declared.stats.WorkerStats.{WorkerStats}
 
 -- the line of a worker
 abbrev pub summary_line : (worker : ℕ) → WorkerStats → List ℕ
-summary_line worker stats = concat (codes "worker " ∷ decimal worker ∷ codes " instructions " ∷ decimal stats.instructions
-    ∷ codes " pages " ∷ decimal stats.pages ∷ codes " needs " ∷ decimal stats.needs ∷ codes " reads " ∷ decimal stats.reads
-    ∷ codes " writes " ∷ decimal stats.writes ∷ codes "\n" ∷ [])
+summary_line worker stats = concat (
+    codes "worker " ∷ decimal worker
+    ∷ codes " instructions " ∷ decimal stats.instructions
+    ∷ codes " pages " ∷ decimal stats.pages
+    ∷ codes " needs " ∷ decimal stats.needs
+    ∷ codes " reads " ∷ decimal stats.reads
+    ∷ codes " writes " ∷ decimal stats.writes
+    ∷ codes "\n" ∷ [])
 
 -- the lines of the workers from this one on
 abbrev pub lines_from : (worker : ℕ) → List WorkerStats → List ℕ

@@ -1,17 +1,16 @@
 // The input texts of a command.
-ghost use Rattle.std.specs.Prelude.{◌≡◌, ℕ, option_map, All, IsTrue, IfSome, IfErr};
+ghost use Rattle.std.specs.Prelude.{◌≡◌, ℕ, true, option_map, All, IfSome};
+ghost use Rattle.mage_instr.specs.Inputs.{input_widths_of};
 ghost use Rattle.mage_instr.specs.Sound.{IsSound};
-ghost use Rattle.mage_meaning.specs.Widths.{input_widths_of};
 ghost use Rattle.mage_texts.specs.Lists.{lists_of};
 ghost use Rattle.mage_texts.specs.InputText.{inputs_of};
 ghost use Rattle.mage_planner.specs.declared.refusal.Refusal.TheVariants as refusals;
 ghost use Rattle.mage_planner.specs.Outcome.{File, file_named, bytes_or, or_line, numbers_of};
-ghost use Rattle.mage_planner.specs.Answer.{Gives, IsFetchRefusal, StepCounted, IsNoDeskFault, IsNoWordsFault, HasNamed};
+ghost use Rattle.mage_planner.specs.Steps.{Gives, StepCounted, IsNoDeskFault};
 
 use crate::Refusal;
 use mage_base::{Desk, DeskError};
-use mage_instr::Program;
-use mage_meaning::{Party, input_widths};
+use mage_instr::{Party, Program, input_widths};
 use mage_pipe::Loaded;
 use mage_texts::{InputFault, read_inputs};
 use std::alloc::Global;
@@ -26,20 +25,14 @@ fn fetch_input<D: Desk>(
     name: Option<&str>,
     party: Party,
 ) -> Result<Vec<u8>, Refusal>
-    ensures told { IfSome (D.files desk.old) (λ files.
-        Gives (λ bytes. bytes.items) result (bytes_or (refusals.InputTooLong party) (file_named files (option_map (λ n. n.now) name.entry) 67108864))) }
-    ensures refusal { IfErr result (IsFetchRefusal (refusals.InputTooLong party)) }
-    ensures no_words { IsNoWordsFault result }
-    ensures cause { StepCounted (D.faults desk.old) (D.faults desk.new) result }
-    ensures steady_finds { IsTrue (D.steady desk.old)
-        → IfSome (D.files desk.old) (λ files. HasNamed files (option_map (λ n. n.now) name.entry) → IsNoDeskFault result) }
-
-    ensures files { D.files desk.new ≡ D.files desk.old }
-    ensures said { D.said desk.new ≡ D.said desk.old }
-    ensures warned { D.warned desk.new ≡ D.warned desk.old }
-    ensures steady { D.steady desk.new ≡ D.steady desk.old }
-    ensures room { D.room desk.new ≡ D.room desk.old }
-    ensures warn_room { D.warn_room desk.new ≡ D.warn_room desk.old }
+    ensures told { IfSome (D.tells desk.old).files (λ files. Gives (D.tells desk.old).steady
+        (λ bytes. bytes.items) result (bytes_or (refusals.InputTooLong party)
+        (file_named files (option_map (λ n. n.now) name.entry) 67108864))) }
+    ensures some { (file : File) × Gives true (λ bytes. bytes.items) result
+        (bytes_or (refusals.InputTooLong party) file) }
+    ensures cause { StepCounted (D.tells desk.old).faults (D.tells desk.new).faults result }
+    ensures rest { D.tells desk.new
+        ≡ record (D.tells desk.old) { faults = (D.tells desk.new).faults } }
 {
     let Some(name) = name else {
         return Ok(Vec::new(alloc));
@@ -58,12 +51,11 @@ fn numbers(
     text: &[u8],
     program: &Program,
     party: Party,
-) -> Result<Vec<Vec<u64>>, Refusal>
+) -> Result<Vec<Vec<u128>>, Refusal>
     requires { All IsSound program.now.workers }
     ensures quiet { (faults : ℕ) → StepCounted faults faults result }
     ensures no_fault { IsNoDeskFault result }
-    ensures no_words { IsNoWordsFault result }
-    ensures numbers { Gives (λ numbers. lists_of numbers.items) result
+    ensures numbers { Gives true (λ numbers. lists_of numbers.items) result
         (or_line party (inputs_of text.now (input_widths_of party program.now))) }
 {
     let widths = input_widths(alloc, program, party).map_err(|_| Refusal::Memory)?;
@@ -82,22 +74,16 @@ pub fn read_numbers<D: Desk>(
     name: Option<&str>,
     loaded: &Loaded,
     party: Party,
-) -> Result<Vec<Vec<u64>>, Refusal>
+) -> Result<Vec<Vec<u128>>, Refusal>
     requires { All IsSound loaded.now.program.workers }
-    ensures told { IfSome (D.files desk.old) (λ files.
-        Gives (λ numbers. lists_of numbers.items) result (numbers_of party loaded.now (file_named files (option_map (λ n. n.now) name.entry) 67108864))) }
-    ensures some { (file : File) × Gives (λ numbers. lists_of numbers.items) result (numbers_of party loaded.now file) }
-    ensures no_words { IsNoWordsFault result }
-    ensures cause { StepCounted (D.faults desk.old) (D.faults desk.new) result }
-    ensures steady_finds { IsTrue (D.steady desk.old)
-        → IfSome (D.files desk.old) (λ files. HasNamed files (option_map (λ n. n.now) name.entry) → IsNoDeskFault result) }
-
-    ensures files { D.files desk.new ≡ D.files desk.old }
-    ensures said { D.said desk.new ≡ D.said desk.old }
-    ensures warned { D.warned desk.new ≡ D.warned desk.old }
-    ensures steady { D.steady desk.new ≡ D.steady desk.old }
-    ensures room { D.room desk.new ≡ D.room desk.old }
-    ensures warn_room { D.warn_room desk.new ≡ D.warn_room desk.old }
+    ensures told { IfSome (D.tells desk.old).files (λ files. Gives (D.tells desk.old).steady
+        (λ numbers. lists_of numbers.items) result (numbers_of party loaded.now
+        (file_named files (option_map (λ n. n.now) name.entry) 67108864))) }
+    ensures some { (file : File) × Gives true (λ numbers. lists_of numbers.items) result
+        (numbers_of party loaded.now file) }
+    ensures cause { StepCounted (D.tells desk.old).faults (D.tells desk.new).faults result }
+    ensures rest { D.tells desk.new
+        ≡ record (D.tells desk.old) { faults = (D.tells desk.new).faults } }
 {
     let text = fetch_input(alloc, desk, name, party)?;
     numbers(alloc, &text, &loaded.program, party)

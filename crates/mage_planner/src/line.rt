@@ -7,9 +7,8 @@ ghost use Rattle.mage_planner.specs.Lines.{kind_name, party_name, line_of};
 
 use crate::Refusal;
 use mage_base::Memory;
-use mage_instr::Tight;
+use mage_instr::{Party, Tight};
 use mage_lex::LangKind;
-use mage_meaning::Party;
 use std::alloc::{AllocError, Global};
 use std::borrow::CowStr;
 
@@ -60,7 +59,8 @@ fn frames_line(
     needs: u8,
     has: u32,
 ) -> Result<String, AllocError>
-    ensures { IfOk result (λ text. string_bytes text ≡ line_of (refusal.Limits worker (tight.Frames instr needs has))) }
+    ensures { IfOk result (λ text.
+        string_bytes text ≡ line_of (refusal.Limits worker (tight.Frames instr needs has))) }
 {
     format!(in alloc;
         "mage: limits: worker {worker} instruction {instr} needs {needs} pages, has {has} frames\n"
@@ -69,9 +69,20 @@ fn frames_line(
 
 // The line of an instruction that needs a slot of the buffer.
 fn buffer_line(alloc: Global, worker: u16, instr: u32) -> Result<String, AllocError>
-    ensures { IfOk result (λ text. string_bytes text ≡ line_of (refusal.Limits worker (tight.Buffer instr))) }
+    ensures { IfOk result (λ text.
+        string_bytes text ≡ line_of (refusal.Limits worker (tight.Buffer instr))) }
 {
     format!(in alloc; "mage: limits: worker {worker} instruction {instr} needs a buffer slot\n")
+}
+
+// The line of an instruction whose result doesn't fit a page.
+fn page_line(alloc: Global, worker: u16, instr: u32, class: u8) -> Result<String, AllocError>
+    ensures { IfOk result (λ text.
+        string_bytes text ≡ line_of (refusal.Limits worker (tight.Page instr class))) }
+{
+    format!(in alloc;
+        "mage: limits: worker {worker} instruction {instr} needs a page of {class} wires\n"
+    )
 }
 
 fn tight_line(alloc: Global, worker: u16, tight: Tight) -> Result<String, AllocError>
@@ -80,6 +91,7 @@ fn tight_line(alloc: Global, worker: u16, tight: Tight) -> Result<String, AllocE
     match tight {
         Tight::Frames { instr, needs, has } => frames_line(alloc, worker, instr, needs, has),
         Tight::Buffer { instr } => buffer_line(alloc, worker, instr),
+        Tight::Page { instr, class } => page_line(alloc, worker, instr, class),
     }
 }
 

@@ -1,14 +1,13 @@
-use mage_instr::Tight;
+use mage_instr::{Party, Tight};
 use mage_lex::LangKind;
-use mage_meaning::Party;
 
 /// Why a command isn't done.
 #[derive(Clone, Copy, Debug, PartialEq, Eq)]
 pub enum Refusal {
     /// The words aren't those of a command.
     Words,
-    /// The source isn't in the language: what is wrong, and where. Lines and columns count from 1, and a column counts
-    /// bytes; 0 and 0 stand for the whole text.
+    /// The source isn't in the language: what is wrong, and where. Lines and columns count from 1, and a column
+    /// counts bytes; 0 and 0 stand for the whole text.
     Language {
         kind: LangKind,
         line: u32,

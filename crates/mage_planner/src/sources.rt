@@ -1,10 +1,10 @@
 // The source of a command: fetched, read and planned.
-ghost use Rattle.std.specs.Prelude.{◌≡◌, ◌≤◌, ℕ, length, All, IsTrue, IsSome, IfSome, IfOk, IfErr};
+ghost use Rattle.std.specs.Prelude.{◌≡◌, ◌≤◌, ℕ, true, length, All, IfSome, IfOk};
 ghost use Rattle.mage_instr.specs.Limits.{AreInRange};
 ghost use Rattle.mage_instr.specs.Sound.{IsSound};
 ghost use Rattle.mage_pipe.specs.Loading.{loaded_of};
 ghost use Rattle.mage_planner.specs.Outcome.{File, file_at, bytes_or, or_language, lang_refusal, plan_refusal, long_source, source_of, costs_of, if_planned, planned_of};
-ghost use Rattle.mage_planner.specs.Answer.{Gives, IsFetchRefusal, StepCounted, IsNoDeskFault, IsNoWordsFault};
+ghost use Rattle.mage_planner.specs.Steps.{Gives, StepCounted, IsNoDeskFault};
 
 use crate::Refusal;
 use mage_base::{Desk, DeskError};
@@ -48,20 +48,13 @@ fn of_plan(fault: PlanFault) -> Refusal
 
 // The bytes of a source's file.
 fn fetch_source<D: Desk>(alloc: Global, desk: &mut D, name: &str) -> Result<Vec<u8>, Refusal>
-    ensures told { IfSome (D.files desk.old) (λ files.
-        Gives (λ bytes. bytes.items) result (bytes_or long_source (file_at files name.now 1048576))) }
-    ensures refusal { IfErr result (IsFetchRefusal long_source) }
-    ensures no_words { IsNoWordsFault result }
-    ensures cause { StepCounted (D.faults desk.old) (D.faults desk.new) result }
-    ensures steady_finds { IsTrue (D.steady desk.old)
-        → IfSome (D.files desk.old) (λ files. IsSome (files name.now) → IsNoDeskFault result) }
-
-    ensures files { D.files desk.new ≡ D.files desk.old }
-    ensures said { D.said desk.new ≡ D.said desk.old }
-    ensures warned { D.warned desk.new ≡ D.warned desk.old }
-    ensures steady { D.steady desk.new ≡ D.steady desk.old }
-    ensures room { D.room desk.new ≡ D.room desk.old }
-    ensures warn_room { D.warn_room desk.new ≡ D.warn_room desk.old }
+    ensures told { IfSome (D.tells desk.old).files (λ files. Gives (D.tells desk.old).steady
+        (λ bytes. bytes.items) result (bytes_or long_source (file_at files name.now 1048576))) }
+    ensures some { (file : File) × Gives true (λ bytes. bytes.items) result
+        (bytes_or long_source file) }
+    ensures cause { StepCounted (D.tells desk.old).faults (D.tells desk.new).faults result }
+    ensures rest { D.tells desk.new
+        ≡ record (D.tells desk.old) { faults = (D.tells desk.new).faults } }
 {
     match desk.fetch(alloc, name, MOST_SOURCE_BYTES) {
         Ok(bytes) => Ok(bytes),
@@ -73,12 +66,11 @@ fn fetch_source<D: Desk>(alloc: Global, desk: &mut D, name: &str) -> Result<Vec<
 
 // The tree of a text, and the program that it unrolls to.
 fn loaded(alloc: Global, text: &[u8]) -> Result<Loaded, Refusal>
-    ensures loaded { Gives (λ loaded. loaded) result (or_language (loaded_of text.now)) }
+    ensures loaded { Gives true (λ loaded. loaded) result (or_language (loaded_of text.now)) }
     ensures sound { IfOk result (λ loaded. All IsSound loaded.program.workers) }
     ensures few { IfOk result (λ loaded. length loaded.program.workers ≤ 16) }
     ensures quiet { (faults : ℕ) → StepCounted faults faults result }
     ensures no_fault { IsNoDeskFault result }
-    ensures no_words { IsNoWordsFault result }
 {
     match load(alloc, text) {
         Ok(loaded) => Ok(loaded),
@@ -91,10 +83,9 @@ pub fn costs(alloc: Global, loaded: &Loaded, limits: Limits) -> Result<Vec<Worke
     requires sound { All IsSound loaded.now.program.workers }
     requires few { length loaded.now.program.workers ≤ 16 }
     requires limits { AreInRange limits }
-    ensures costs { Gives (λ costs. costs.items) result (costs_of limits loaded.now) }
+    ensures costs { Gives true (λ costs. costs.items) result (costs_of limits loaded.now) }
     ensures quiet { (faults : ℕ) → StepCounted faults faults result }
     ensures no_fault { IsNoDeskFault result }
-    ensures no_words { IsNoWordsFault result }
 {
     match program_stats(alloc, &loaded.program, limits) {
         Ok(stats) => Ok(stats),
@@ -108,11 +99,10 @@ fn planned(alloc: Global, loaded: Loaded, limits: Limits) -> Result<Loaded, Refu
     requires sound { All IsSound loaded.program.workers }
     requires few { length loaded.program.workers ≤ 16 }
     requires limits { AreInRange limits }
-    ensures planned { Gives (λ loaded. loaded) result (if_planned limits loaded) }
+    ensures planned { Gives true (λ loaded. loaded) result (if_planned limits loaded) }
     ensures sound { IfOk result (λ loaded. All IsSound loaded.program.workers) }
     ensures quiet { (faults : ℕ) → StepCounted faults faults result }
     ensures no_fault { IsNoDeskFault result }
-    ensures no_words { IsNoWordsFault result }
 {
     costs(alloc, &loaded, limits)?;
     Ok(loaded)
@@ -121,22 +111,14 @@ fn planned(alloc: Global, loaded: Loaded, limits: Limits) -> Result<Loaded, Refu
 /// The tree of the source that a file has, and the program that it unrolls to.
 #[tactic(auto, unfolding(crate::specs::Outcome::source_of))]
 pub fn read_source<D: Desk>(alloc: Global, desk: &mut D, name: &str) -> Result<Loaded, Refusal>
-    ensures told { IfSome (D.files desk.old) (λ files.
-        Gives (λ loaded. loaded) result (source_of (file_at files name.now 1048576))) }
-    ensures some { (file : File) × Gives (λ loaded. loaded) result (source_of file) }
+    ensures told { IfSome (D.tells desk.old).files (λ files. Gives (D.tells desk.old).steady
+        (λ loaded. loaded) result (source_of (file_at files name.now 1048576))) }
+    ensures some { (file : File) × Gives true (λ loaded. loaded) result (source_of file) }
     ensures sound { IfOk result (λ loaded. All IsSound loaded.program.workers) }
     ensures few { IfOk result (λ loaded. length loaded.program.workers ≤ 16) }
-    ensures no_words { IsNoWordsFault result }
-    ensures cause { StepCounted (D.faults desk.old) (D.faults desk.new) result }
-    ensures steady_finds { IsTrue (D.steady desk.old)
-        → IfSome (D.files desk.old) (λ files. IsSome (files name.now) → IsNoDeskFault result) }
-
-    ensures files { D.files desk.new ≡ D.files desk.old }
-    ensures said { D.said desk.new ≡ D.said desk.old }
-    ensures warned { D.warned desk.new ≡ D.warned desk.old }
-    ensures steady { D.steady desk.new ≡ D.steady desk.old }
-    ensures room { D.room desk.new ≡ D.room desk.old }
-    ensures warn_room { D.warn_room desk.new ≡ D.warn_room desk.old }
+    ensures cause { StepCounted (D.tells desk.old).faults (D.tells desk.new).faults result }
+    ensures rest { D.tells desk.new
+        ≡ record (D.tells desk.old) { faults = (D.tells desk.new).faults } }
 {
     let text = fetch_source(alloc, desk, name)?;
     loaded(alloc, &text)
@@ -151,21 +133,13 @@ pub fn read_planned<D: Desk>(
     limits: Limits,
 ) -> Result<Loaded, Refusal>
     requires limits { AreInRange limits }
-    ensures told { IfSome (D.files desk.old) (λ files.
-        Gives (λ loaded. loaded) result (planned_of limits (file_at files name.now 1048576))) }
-    ensures some { (file : File) × Gives (λ loaded. loaded) result (planned_of limits file) }
+    ensures told { IfSome (D.tells desk.old).files (λ files. Gives (D.tells desk.old).steady
+        (λ loaded. loaded) result (planned_of limits (file_at files name.now 1048576))) }
+    ensures some { (file : File) × Gives true (λ loaded. loaded) result (planned_of limits file) }
     ensures sound { IfOk result (λ loaded. All IsSound loaded.program.workers) }
-    ensures no_words { IsNoWordsFault result }
-    ensures cause { StepCounted (D.faults desk.old) (D.faults desk.new) result }
-    ensures steady_finds { IsTrue (D.steady desk.old)
-        → IfSome (D.files desk.old) (λ files. IsSome (files name.now) → IsNoDeskFault result) }
-
-    ensures files { D.files desk.new ≡ D.files desk.old }
-    ensures said { D.said desk.new ≡ D.said desk.old }
-    ensures warned { D.warned desk.new ≡ D.warned desk.old }
-    ensures steady { D.steady desk.new ≡ D.steady desk.old }
-    ensures room { D.room desk.new ≡ D.room desk.old }
-    ensures warn_room { D.warn_room desk.new ≡ D.warn_room desk.old }
+    ensures cause { StepCounted (D.tells desk.old).faults (D.tells desk.new).faults result }
+    ensures rest { D.tells desk.new
+        ≡ record (D.tells desk.old) { faults = (D.tells desk.new).faults } }
 {
     let loaded = read_source(alloc, desk, name)?;
     planned(alloc, loaded, limits)

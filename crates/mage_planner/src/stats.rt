@@ -1,11 +1,11 @@
 // `stats`: what a plan for a source costs.
-ghost use Rattle.std.specs.Prelude.{◌≡◌, ◌≤◌, ℕ, length, Ok, Some, IsTrue, IfSome, IfOk, OnOk, ◌++◌, string_bytes};
+ghost use Rattle.std.specs.Prelude.{◌≡◌, ℕ, Ok, true, IfSome, IfOk, OnOk, ◌++◌, string_bytes};
 ghost use Rattle.mage_instr.specs.Limits.{AreInRange};
 ghost use Rattle.mage_words.specs.Answers.{stats_view};
 ghost use Rattle.mage_words.specs.Words as words;
 ghost use Rattle.mage_planner.specs.SummaryText.{summary_line, summary_text};
-ghost use Rattle.mage_planner.specs.Outcome.{Found, found_in, stats_outcome};
-ghost use Rattle.mage_planner.specs.Answer.{Gives, StepCounted, IsNoDeskFault, IsNoWordsFault, HasFiles};
+ghost use Rattle.mage_planner.specs.Outcome.{Found, found_in, says, stats_outcome};
+ghost use Rattle.mage_planner.specs.Steps.{Gives, StepCounted, IsNoDeskFault};
 
 use crate::Refusal;
 use crate::sources::{costs, read_source};
@@ -16,7 +16,8 @@ use std::alloc::Global;
 
 // Adds the line of a worker.
 fn add_line(text: &mut String, worker: usize, stats: &WorkerStats) -> Result<(), Memory>
-    ensures { OnOk result (string_bytes text.new ≡ string_bytes text.old ++ summary_line worker stats.now) }
+    ensures { OnOk result
+        (string_bytes text.new ≡ string_bytes text.old ++ summary_line worker stats.now) }
 {
     let WorkerStats {
         instructions,
@@ -47,8 +48,8 @@ fn lines(alloc: Global, workers: &[WorkerStats]) -> Result<String, Memory>
 fn summary_text(alloc: Global, workers: &[WorkerStats]) -> Result<Vec<u8>, Refusal>
     ensures quiet { (faults : ℕ) → StepCounted faults faults result }
     ensures no_fault { IsNoDeskFault result }
-    ensures no_words { IsNoWordsFault result }
-    ensures text { Gives (λ text. text.items) result (Ok (summary_text workers.now)) }
+    ensures text { Gives true (λ text. says text.items) result
+        (Ok (says (summary_text workers.now))) }
 {
     match lines(alloc, workers) {
         Ok(text) => Ok(text.into_bytes()),
@@ -60,20 +61,15 @@ fn summary_text(alloc: Global, workers: &[WorkerStats]) -> Result<Vec<u8>, Refus
 #[tactic(auto, unfolding(crate::specs::Outcome::stats_outcome))]
 pub fn stats<D: Desk>(alloc: Global, stats: Stats<'_>, desk: &mut D) -> Result<Vec<u8>, Refusal>
     requires limits { AreInRange stats.limits }
-    ensures told { IfSome (D.files desk.old) (λ files.
-        Gives (λ text. text.items) result (stats_outcome (found_in files (words.Stats (stats_view stats.entry))) (stats_view stats.entry))) }
-    ensures some { (found : Found) × Gives (λ text. text.items) result (stats_outcome found (stats_view stats.entry)) }
-    ensures no_words { IsNoWordsFault result }
-    ensures cause { StepCounted (D.faults desk.old) (D.faults desk.new) result }
-    ensures steady_finds { IsTrue (D.steady desk.old)
-        → IfSome (D.files desk.old) (λ files. HasFiles files (Some (words.Stats (stats_view stats.entry))) → IsNoDeskFault result) }
-
-    ensures files { D.files desk.new ≡ D.files desk.old }
-    ensures said { D.said desk.new ≡ D.said desk.old }
-    ensures warned { D.warned desk.new ≡ D.warned desk.old }
-    ensures steady { D.steady desk.new ≡ D.steady desk.old }
-    ensures room { D.room desk.new ≡ D.room desk.old }
-    ensures warn_room { D.warn_room desk.new ≡ D.warn_room desk.old }
+    ensures told { IfSome (D.tells desk.old).files (λ files. Gives (D.tells desk.old).steady
+        (λ text. says text.items) result
+        (stats_outcome (found_in files (words.Stats (stats_view stats.entry)))
+        (stats_view stats.entry))) }
+    ensures some { (found : Found) × Gives true (λ text. says text.items) result
+        (stats_outcome found (stats_view stats.entry)) }
+    ensures cause { StepCounted (D.tells desk.old).faults (D.tells desk.new).faults result }
+    ensures rest { D.tells desk.new
+        ≡ record (D.tells desk.old) { faults = (D.tells desk.new).faults } }
 {
     let loaded = read_source(alloc, desk, stats.source)?;
     let costs = costs(alloc, &loaded, stats.limits)?;

@@ -1,4 +1,4 @@
-// Cases of a command over a desk in memory.
+// Rows: a command over a desk in memory, and what comes of it.
 use mage_base::{DeskFails, MemDesk, Memory};
 use mage_planner::{Status, planner};
 use std::alloc::{AllocError, Global};
@@ -9,9 +9,11 @@ pub const SOLO: &str = "solo --source s --garbler g --evaluator e";
 
 pub const SUM: &[u8] = b"input garbler a: u8; input evaluator b: u8; output a + b;";
 
-// A source, the garbler's and the evaluator's text; then the status, what is said and what is warned.
-#[derive(Drop)]
-pub struct Case {
+/// The words, which single spaces part; the source, the garbler's and the evaluator's text; then the status, what is
+/// said and what is warned.
+#[derive(Clone, Copy)]
+pub struct Row {
+    pub words: &'static str,
     pub source: &'static [u8],
     pub garbler: &'static [u8],
     pub evaluator: &'static [u8],
@@ -20,7 +22,71 @@ pub struct Case {
     pub warned: &'static [u8],
 }
 
-// The words of a line, which single spaces part.
+/// A command that is done.
+pub fn done(
+    words: &'static str,
+    source: &'static [u8],
+    garbler: &'static [u8],
+    evaluator: &'static [u8],
+    said: &'static [u8],
+) -> Row {
+    Row {
+        words,
+        source,
+        garbler,
+        evaluator,
+        status: Status::Ok,
+        said,
+        warned: b"",
+    }
+}
+
+/// A command that is refused.
+pub fn refused(
+    words: &'static str,
+    source: &'static [u8],
+    garbler: &'static [u8],
+    evaluator: &'static [u8],
+    status: Status,
+    warned: &'static [u8],
+) -> Row {
+    Row {
+        words,
+        source,
+        garbler,
+        evaluator,
+        status,
+        said: b"",
+        warned,
+    }
+}
+
+/// `solo` that is done.
+pub fn says(
+    source: &'static [u8],
+    garbler: &'static [u8],
+    evaluator: &'static [u8],
+    said: &'static [u8],
+) -> Row {
+    done(SOLO, source, garbler, evaluator, said)
+}
+
+/// `solo` whose source is refused, whatever the inputs: the language is tested before them.
+pub fn faulty(source: &'static [u8], warned: &'static [u8]) -> Row {
+    refused(SOLO, source, b"no number", b"", Status::Language, warned)
+}
+
+/// `solo` of which an input text is refused.
+pub fn bad_input(
+    source: &'static [u8],
+    garbler: &'static [u8],
+    evaluator: &'static [u8],
+    warned: &'static [u8],
+) -> Row {
+    refused(SOLO, source, garbler, evaluator, Status::InputText, warned)
+}
+
+/// The words of a line.
 pub fn words_of(alloc: Global, line: &str) -> Result<Vec<String>, AllocError> {
     let mut words = Vec::new(alloc);
     for word in line.split(' ') {
@@ -29,6 +95,7 @@ pub fn words_of(alloc: Global, line: &str) -> Result<Vec<String>, AllocError> {
     Ok(words)
 }
 
+/// A desk with these files and this room.
 pub fn desk_with(
     alloc: Global,
     fails: &DeskFails,
@@ -44,56 +111,27 @@ pub fn desk_with(
     Ok(desk)
 }
 
-// Runs each case with the words of this line.
-pub fn check(rt: &impl Abort, alloc: Global, line: &str, cases: &[Case]) -> Result<(), Fail> {
-    let words = words_of(alloc, line)?;
-    for (index, case) in cases.iter().enumerate() {
-        let fails = DeskFails::none(alloc);
-        let mut desk = desk_with(
-            alloc,
-            &fails,
-            1000,
-            case.source,
-            case.garbler,
-            case.evaluator,
-        )?;
-        let status = planner(alloc, &words, &mut desk);
-        assert_eq!(rt; status, case.status, "{line}: case {index}");
-        assert_eq!(rt; desk.said(), case.said, "{line}: case {index}");
-        assert_eq!(rt; desk.warned(), case.warned, "{line}: case {index}");
-    }
+fn check_row(rt: &impl Abort, alloc: Global, row: &Row) -> Result<(), Fail> {
+    let words = words_of(alloc, row.words)?;
+    let fails = DeskFails::none(alloc);
+    let mut desk = desk_with(alloc, &fails, 2000, row.source, row.garbler, row.evaluator)?;
+    let status = planner(alloc, &words, &mut desk);
+    assert_eq!(rt; status, row.status, "{} of {:?}", row.words, row.source);
+    assert_eq!(rt; desk.said(), row.said, "{} of {:?}", row.words, row.source);
+    assert_eq!(rt;
+        desk.warned(),
+        row.warned,
+        "{} of {:?}",
+        row.words,
+        row.source
+    );
     Ok(())
 }
 
-pub fn said(
-    source: &'static [u8],
-    garbler: &'static [u8],
-    evaluator: &'static [u8],
-    said: &'static [u8],
-) -> Case {
-    Case {
-        source,
-        garbler,
-        evaluator,
-        status: Status::Ok,
-        said,
-        warned: b"",
+/// Runs each row.
+pub fn check(rt: &impl Abort, alloc: Global, rows: &[Row]) -> Result<(), Fail> {
+    for row in rows {
+        check_row(rt, alloc, row)?;
     }
-}
-
-pub fn refused(
-    source: &'static [u8],
-    garbler: &'static [u8],
-    evaluator: &'static [u8],
-    status: Status,
-    warned: &'static [u8],
-) -> Case {
-    Case {
-        source,
-        garbler,
-        evaluator,
-        status,
-        said: b"",
-        warned,
-    }
+    Ok(())
 }

@@ -1,4 +1,4 @@
-// Faults of the desk.
+// Faults of the desk, and two commands on one desk.
 use crate::cases::{SOLO, SUM, desk_with, words_of};
 use mage_base::{DeskFails, Items};
 use mage_planner::{Status, planner};
@@ -17,30 +17,6 @@ struct Failing {
     warned: &'static str,
 }
 
-fn check(
-    rt: &impl Abort,
-    alloc: Global,
-    line: &str,
-    source: &[u8],
-    rows: &[Failing],
-) -> Result<(), Fail> {
-    let words = words_of(alloc, line)?;
-    for row in rows {
-        let call = row.call;
-        let mut fails = DeskFails::none(alloc);
-        fails.desk = Items::from_slice(alloc, &[call])?;
-        let mut desk = desk_with(alloc, &fails, 1000, source, b"200", b"100")?;
-        assert_eq!(rt;
-            planner(alloc, &words, &mut desk),
-            row.status,
-            "call {call}"
-        );
-        assert_eq!(rt; desk.said(), row.said.as_bytes(), "call {call}");
-        assert_eq!(rt; desk.warned(), row.warned.as_bytes(), "call {call}");
-    }
-    Ok(())
-}
-
 fn refused(call: u64) -> Failing {
     Failing {
         call,
@@ -50,83 +26,119 @@ fn refused(call: u64) -> Failing {
     }
 }
 
-// Three fetches and one saying; a fifth call isn't made.
-#[test]
-fn each_call_of_solo_may_fail(rt: HostRuntime) -> Result<(), Fail> {
-    let well = Failing {
-        call: 4,
+fn done(call: u64, said: &'static str) -> Failing {
+    Failing {
+        call,
         status: Status::Ok,
-        said: "44\n",
+        said,
         warned: "",
-    };
-    let rows = [refused(0), refused(1), refused(2), refused(3), well];
-    check(&rt, rt.alloc(), SOLO, SUM, &rows)
+    }
 }
 
-// One fetch and one saying.
-#[test]
-fn each_call_of_stats_may_fail(rt: HostRuntime) -> Result<(), Fail> {
-    let well = Failing {
-        call: 2,
-        status: Status::Ok,
-        said: "worker 0 instructions 4 pages 1 needs 1 reads 0 writes 0\n",
-        warned: "",
-    };
-    let rows = [refused(0), refused(1), well];
-    check(&rt, rt.alloc(), "stats --source s", SUM, &rows)
-}
-
-// A warning that fails changes no status.
-#[test]
-fn a_warning_may_fail(rt: HostRuntime) -> Result<(), Fail> {
-    let faulty = Failing {
-        call: 1,
-        status: Status::Language,
+fn unwarned(call: u64, status: Status) -> Failing {
+    Failing {
+        call,
+        status,
         said: "",
         warned: "",
-    };
-    let warned = Failing {
-        call: 2,
-        warned: "mage: source 1:8: UnknownName\n",
-        ..faulty
-    };
-    check(&rt, rt.alloc(), SOLO, b"output y;", &[faulty, warned])?;
-    let words = Failing {
-        call: 0,
-        status: Status::Words,
-        ..faulty
-    };
-    check(&rt, rt.alloc(), "solo", SUM, &[words])
+    }
 }
 
-#[test]
-fn a_missing_file_is_a_fault_of_the_desk(rt: HostRuntime) -> Result<(), Fail> {
-    let alloc = rt.alloc();
-    let fails = DeskFails::none(alloc);
-    for line in [
-        "solo --source missing --garbler g --evaluator e",
-        "solo --source s --garbler missing --evaluator e",
-        "solo --source s --garbler g --evaluator missing",
-        "stats --source missing",
-    ] {
-        let words = words_of(alloc, line)?;
-        let mut desk = desk_with(alloc, &fails, 1000, SUM, b"200", b"100")?;
-        assert_eq!(rt; planner(alloc, &words, &mut desk), Status::Desk, "{line}");
-        assert_eq!(rt; desk.said(), b"".as_slice(), "{line}");
-        assert_eq!(rt; desk.warned(), DESK_FAULT.as_bytes(), "{line}");
+fn check_row(
+    rt: &impl Abort,
+    alloc: Global,
+    line: &str,
+    source: &[u8],
+    row: Failing,
+) -> Result<(), Fail> {
+    let call = row.call;
+    let words = words_of(alloc, line)?;
+    let mut fails = DeskFails::none(alloc);
+    fails.desk = Items::from_slice(alloc, &[call])?;
+    let mut desk = desk_with(alloc, &fails, 1000, source, b"200", b"100")?;
+    assert_eq!(rt;
+        planner(alloc, &words, &mut desk),
+        row.status,
+        "{line}: {call}"
+    );
+    assert_eq!(rt; desk.said(), row.said.as_bytes(), "{line}: {call}");
+    assert_eq!(rt; desk.warned(), row.warned.as_bytes(), "{line}: {call}");
+    Ok(())
+}
+
+// `solo` fetches three times and says once; a fifth call isn't made. `stats` fetches and says once. A warning that fails
+// changes no status.
+fn failing_calls(rt: &impl Abort, alloc: Global) -> Result<(), Fail> {
+    for call in 0..4 {
+        check_row(rt, alloc, SOLO, SUM, refused(call))?;
     }
+    check_row(rt, alloc, SOLO, SUM, done(4, "44\n"))?;
+    let stats = "stats --source s";
+    for call in 0..2 {
+        check_row(rt, alloc, stats, SUM, refused(call))?;
+    }
+    let costs = "worker 0 instructions 4 pages 1 needs 1 reads 0 writes 0\n";
+    check_row(rt, alloc, stats, SUM, done(2, costs))?;
+    check_row(rt, alloc, SOLO, b"output y;", unwarned(1, Status::Language))?;
+    check_row(rt, alloc, "solo", SUM, unwarned(0, Status::Words))
+}
+
+fn check_missing(rt: &impl Abort, alloc: Global, line: &str) -> Result<(), Fail> {
+    let fails = DeskFails::none(alloc);
+    let words = words_of(alloc, line)?;
+    let mut desk = desk_with(alloc, &fails, 1000, SUM, b"200", b"100")?;
+    assert_eq!(rt; planner(alloc, &words, &mut desk), Status::Desk, "{line}");
+    assert_eq!(rt; desk.said(), b"".as_slice(), "{line}");
+    assert_eq!(rt; desk.warned(), DESK_FAULT.as_bytes(), "{line}");
     Ok(())
 }
 
 // Of what is said, and of what is warned, there is what fits.
-#[test]
-fn want_of_room_is_a_fault_of_the_desk(rt: HostRuntime) -> Result<(), Fail> {
-    let alloc = rt.alloc();
+fn too_little_room(rt: &impl Abort, alloc: Global) -> Result<(), Fail> {
     let fails = DeskFails::none(alloc);
     let words = words_of(alloc, SOLO)?;
     let mut desk = desk_with(alloc, &fails, 2, SUM, b"200", b"100")?;
     assert_eq!(rt; planner(alloc, &words, &mut desk), Status::Desk);
     assert_eq!(rt; desk.said(), b"44".as_slice());
     assert_eq!(rt; desk.warned(), b"ma".as_slice());
+    Ok(())
+}
+
+#[test]
+fn the_desk_may_fail(rt: HostRuntime) -> Result<(), Fail> {
+    let alloc = rt.alloc();
+    failing_calls(&rt, alloc)?;
+    for line in [
+        "solo --source missing --garbler g --evaluator e",
+        "solo --source s --garbler missing --evaluator e",
+        "solo --source s --garbler g --evaluator missing",
+        "stats --source missing",
+    ] {
+        check_missing(&rt, alloc, line)?;
+    }
+    too_little_room(&rt, alloc)
+}
+
+// What the second says stands behind what the first said, and so do their lines.
+#[test]
+fn commands_follow_one_another(rt: HostRuntime) -> Result<(), Fail> {
+    let alloc = rt.alloc();
+    let fails = DeskFails::none(alloc);
+    let solo = words_of(alloc, SOLO)?;
+    let none = words_of(alloc, "solo")?;
+    let mut desk = desk_with(alloc, &fails, 32, SUM, b"200", b"100")?;
+    for (words, status) in [
+        (&solo, Status::Ok),
+        (&none, Status::Words),
+        (&solo, Status::Ok),
+        (&none, Status::Words),
+    ] {
+        assert_eq!(rt; planner(alloc, words, &mut desk), status);
+    }
+    assert_eq!(rt; desk.said(), b"44\n44\n".as_slice());
+    assert_eq!(rt;
+        desk.warned(),
+        b"mage: bad words\nmage: bad words\n".as_slice()
+    );
     Ok(())
 }

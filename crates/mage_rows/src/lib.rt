@@ -13,4 +13,6 @@ mod solo;
 #[cfg(test)]
 mod stats;
 #[cfg(test)]
+mod wide;
+#[cfg(test)]
 mod words;

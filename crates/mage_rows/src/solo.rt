@@ -1,7 +1,9 @@
-// `solo` in plain, on one worker.
-use crate::cases::{SOLO, SUM, check, desk_with, refused, said, words_of};
+// `solo` in plain: inputs and outputs.
+use crate::cases::{SOLO, SUM, bad_input, check, desk_with, done, refused, says, words_of};
 use mage_base::DeskFails;
 use mage_planner::{Status, planner};
+use std::alloc::Global;
+use std::process::Abort;
 use std::test::Fail;
 
 const INPUT: Status = Status::InputText;
@@ -10,149 +12,146 @@ const FIRST: &[u8] = b"mage: input garbler line 1\n";
 
 const SECOND: &[u8] = b"mage: input garbler line 2\n";
 
-#[test]
-fn outputs_are_said(rt: HostRuntime) -> Result<(), Fail> {
-    check(
-        &rt,
-        rt.alloc(),
-        SOLO,
-        &[
-            said(SUM, b"200", b"100", b"44\n"),
-            said(SUM, b"200\n", b"100\n", b"44\n"),
-            said(SUM, b"00000000000000000200", b"1", b"201\n"),
-            said(b"", b"", b"", b""),
-            said(b"// nothing", b"", b"", b""),
-            said(b"input garbler a: u1; output a + a + a;", b"1", b"", b"1\n"),
-            said(
-                b"input garbler a: u64; let b = a + a; output b; output a;",
-                b"18446744073709551615",
-                b"",
-                b"18446744073709551614\n18446744073709551615\n",
-            ),
-            said(
-                b"input garbler a: u8; input garbler b: u8; output b; output a; // both",
-                b"1\n2",
-                b"",
-                b"2\n1\n",
-            ),
-        ],
-    )
-}
-
-#[test]
-fn faulty_lines_are_refused(rt: HostRuntime) -> Result<(), Fail> {
-    let two = b"input garbler a: u8; input garbler b: u8; output a + b;";
-    check(
-        &rt,
-        rt.alloc(),
-        SOLO,
-        &[
-            refused(SUM, b"300", b"100", INPUT, FIRST),
-            refused(SUM, b"", b"100", INPUT, FIRST),
-            refused(SUM, b"1\n2", b"100", INPUT, SECOND),
-            refused(SUM, b"1\n2\n", b"100", INPUT, SECOND),
-            refused(SUM, b"\n", b"100", INPUT, FIRST),
-            refused(
-                SUM,
-                b"200",
-                b"256",
-                INPUT,
-                b"mage: input evaluator line 1\n",
-            ),
-            refused(SUM, b"200", b"", INPUT, b"mage: input evaluator line 1\n"),
-            refused(SUM, b"300", b"256", INPUT, FIRST),
-            refused(SUM, b"200\r\n", b"100", INPUT, FIRST),
-            refused(SUM, b"+200", b"100", INPUT, FIRST),
-            refused(SUM, b"000000000000000000200", b"100", INPUT, FIRST),
-            refused(two, b"1\n\n2", b"", INPUT, SECOND),
-        ],
-    )
-}
-
-#[test]
-fn the_greatest_numbers_are_read(rt: HostRuntime) -> Result<(), Fail> {
-    let wide = b"input garbler a: u64; output a;";
-    let bit = b"input garbler a: u1; output a;";
-    check(
-        &rt,
-        rt.alloc(),
-        SOLO,
-        &[
-            refused(wide, b"18446744073709551616", b"", INPUT, FIRST),
-            refused(bit, b"2", b"", INPUT, FIRST),
-            said(
-                wide,
-                b"18446744073709551615",
-                b"",
-                b"18446744073709551615\n",
-            ),
-            said(bit, b"1", b"", b"1\n"),
-        ],
-    )
-}
-
-#[test]
-fn the_longest_source_is_read(rt: HostRuntime) -> Result<(), Fail> {
-    let alloc = rt.alloc();
-    let words = words_of(alloc, SOLO)?;
-    let fails = DeskFails::none(alloc);
+fn outputs(rt: &impl Abort, alloc: Global) -> Result<(), Fail> {
     let rows = [
-        (1_048_576, Status::Ok, ""),
-        (1_048_577, Status::Language, "mage: source 0:0: TooLong\n"),
+        says(SUM, b"200", b"100", b"44\n"),
+        says(SUM, b"200\n", b"100\n", b"44\n"),
+        says(
+            SUM,
+            b"000000000000000000000000000000000000200",
+            b"1",
+            b"201\n",
+        ),
+        says(b"", b"", b"", b""),
+        says(b"// nothing", b"", b"", b""),
+        says(b"input garbler a: u1; output a + a + a;", b"1", b"", b"1\n"),
+        says(
+            b"input garbler a: u64; let b = a + a; output b; output a;",
+            b"18446744073709551615",
+            b"",
+            b"18446744073709551614\n18446744073709551615\n",
+        ),
+        says(
+            b"input garbler a: u8; input garbler b: u8; output b; output a; // both",
+            b"1\n2",
+            b"",
+            b"2\n1\n",
+        ),
     ];
-    for (len, status, line) in rows {
-        let source = vec![in alloc; b' '; len]?;
-        let mut desk = desk_with(alloc, &fails, 100, &source, b"", b"")?;
-        assert_eq!(rt; planner(alloc, &words, &mut desk), status, "{len} bytes");
-        assert_eq!(rt; desk.warned(), line.as_bytes(), "{len} bytes");
-    }
-    Ok(())
+    check(rt, alloc, &rows)
 }
 
-// An input text of more than 67,108,864 bytes is refused as a whole, whatever it has.
+fn bad_lines(rt: &impl Abort, alloc: Global) -> Result<(), Fail> {
+    let two = b"input garbler a: u8; input garbler b: u8; output a + b;";
+    let evaluator = b"mage: input evaluator line 1\n";
+    let rows = [
+        bad_input(SUM, b"300", b"100", FIRST),
+        bad_input(SUM, b"", b"100", FIRST),
+        bad_input(SUM, b"1\n2", b"100", SECOND),
+        bad_input(SUM, b"1\n2\n", b"100", SECOND),
+        bad_input(SUM, b"\n", b"100", FIRST),
+        bad_input(SUM, b"200", b"256", evaluator),
+        bad_input(SUM, b"200", b"", evaluator),
+        bad_input(SUM, b"300", b"256", FIRST),
+        bad_input(SUM, b"200\r\n", b"100", FIRST),
+        bad_input(SUM, b"+200", b"100", FIRST),
+        bad_input(
+            SUM,
+            b"0000000000000000000000000000000000000200",
+            b"100",
+            FIRST,
+        ),
+        bad_input(two, b"1\n\n2", b"", SECOND),
+    ];
+    check(rt, alloc, &rows)
+}
+
+// A number is below 2 to its width.
+fn greatest_numbers(rt: &impl Abort, alloc: Global) -> Result<(), Fail> {
+    let bit = b"input garbler a: u1; output a;";
+    let wide = b"input garbler a: u64; output a;";
+    let widest = b"input garbler a: u128; output a;";
+    let rows = [
+        says(bit, b"1", b"", b"1\n"),
+        bad_input(bit, b"2", b"", FIRST),
+        says(
+            wide,
+            b"18446744073709551615",
+            b"",
+            b"18446744073709551615\n",
+        ),
+        bad_input(wide, b"18446744073709551616", b"", FIRST),
+        says(
+            widest,
+            b"340282366920938463463374607431768211455",
+            b"",
+            b"340282366920938463463374607431768211455\n",
+        ),
+        bad_input(
+            widest,
+            b"340282366920938463463374607431768211456",
+            b"",
+            FIRST,
+        ),
+    ];
+    check(rt, alloc, &rows)
+}
+
+// An input text that isn't named is empty.
+fn texts_not_named(rt: &impl Abort, alloc: Global) -> Result<(), Fail> {
+    let own = b"input garbler a: u8; output a;";
+    let rows = [
+        refused("solo --source s", own, b"7", b"", INPUT, FIRST),
+        refused(
+            "solo --source s --evaluator e",
+            own,
+            b"7",
+            b"",
+            INPUT,
+            FIRST,
+        ),
+        done("solo --source s --garbler g", own, b"7", b"", b"7\n"),
+    ];
+    check(rt, alloc, &rows)
+}
+
 #[test]
-fn an_input_text_may_be_too_long(rt: HostRuntime) -> Result<(), Fail> {
+fn solo_says_the_outputs(rt: HostRuntime) -> Result<(), Fail> {
     let alloc = rt.alloc();
+    outputs(&rt, alloc)?;
+    bad_lines(&rt, alloc)?;
+    greatest_numbers(&rt, alloc)?;
+    texts_not_named(&rt, alloc)
+}
+
+// A source, and an input text of the evaluator; then the status and what is warned.
+fn check_long(
+    rt: &impl Abort,
+    alloc: Global,
+    source: &[u8],
+    evaluator: &[u8],
+    status: Status,
+    warned: &str,
+) -> Result<(), Fail> {
     let words = words_of(alloc, SOLO)?;
     let fails = DeskFails::none(alloc);
-    let long = vec![in alloc; b'1'; 67_108_865]?;
-    let mut desk = desk_with(alloc, &fails, 100, SUM, b"200", &long)?;
-    assert_eq!(rt; planner(alloc, &words, &mut desk), INPUT);
-    assert_eq!(rt;
-        desk.warned(),
-        b"mage: input evaluator too long\n".as_slice()
-    );
+    let mut desk = desk_with(alloc, &fails, 100, source, b"200", evaluator)?;
+    assert_eq!(rt; planner(alloc, &words, &mut desk), status, "{warned}");
+    assert_eq!(rt; desk.warned(), warned.as_bytes());
     assert_eq!(rt; desk.said(), b"".as_slice());
     Ok(())
 }
 
-// An input text that isn't named is empty.
+// A source has at most 1,048,576 bytes, and an input text at most 67,108,864, whatever they have.
 #[test]
-fn input_texts_that_are_not_named(rt: HostRuntime) -> Result<(), Fail> {
+fn a_text_may_be_too_long(rt: HostRuntime) -> Result<(), Fail> {
     let alloc = rt.alloc();
-    let fails = DeskFails::none(alloc);
-    let own = b"input garbler a: u8; output a;";
-    let rows = [
-        ("solo --source s", INPUT, FIRST),
-        ("solo --source s --evaluator e", INPUT, FIRST),
-        ("solo --source s --garbler g", Status::Ok, b"".as_slice()),
-    ];
-    for (line, status, warned) in rows {
-        let words = words_of(alloc, line)?;
-        let mut desk = desk_with(alloc, &fails, 1000, own, b"7", b"")?;
-        assert_eq!(rt; planner(alloc, &words, &mut desk), status, "{line}");
-        assert_eq!(rt; desk.warned(), warned, "{line}");
-    }
-    Ok(())
-}
-
-#[test]
-fn codes(rt: HostRuntime) {
-    assert_eq!(rt; Status::Ok.code(), 0);
-    assert_eq!(rt; Status::Words.code(), 2);
-    assert_eq!(rt; Status::Language.code(), 3);
-    assert_eq!(rt; Status::Limits.code(), 4);
-    assert_eq!(rt; Status::InputText.code(), 6);
-    assert_eq!(rt; Status::Desk.code(), 7);
-    assert_eq!(rt; Status::Memory.code(), 9);
+    let blank = vec![in alloc; b' '; 1_048_577]?;
+    let digits = vec![in alloc; b'1'; 67_108_865]?;
+    let first = "mage: input garbler line 1\n";
+    check_long(&rt, alloc, &blank[1..], b"", INPUT, first)?;
+    let source = "mage: source 0:0: TooLong\n";
+    check_long(&rt, alloc, &blank, b"", Status::Language, source)?;
+    let evaluator = "mage: input evaluator too long\n";
+    check_long(&rt, alloc, SUM, &digits, INPUT, evaluator)
 }

@@ -1,7 +1,11 @@
 // `stats`, and limits that `solo` and `stats` refuse before anything runs.
-use crate::cases::{check, refused, said};
+use crate::cases::{check, done, refused};
 use mage_planner::Status;
+use std::alloc::Global;
+use std::process::Abort;
 use std::test::Fail;
+
+const LIMITS: Status = Status::Limits;
 
 // Three values of a page each, of which the first two are said.
 const THREE: &[u8] = b"input garbler a: u64; input garbler b: u64; input garbler c: u64; \
@@ -20,108 +24,94 @@ const SQUARES: &[u8] = b"input garbler a: u8[4]; let s = lit u8 (0); \
                          for i in 0..4 { s = s + a[i] * a[i]; } \
                          output s; output s < a[3]; output (s >> 2) ^ resize u8 (s == s);";
 
-#[test]
-fn what_a_plan_costs(rt: HostRuntime) -> Result<(), Fail> {
-    let alloc = rt.alloc();
+fn costs(rt: &impl Abort, alloc: Global) -> Result<(), Fail> {
     let empty = b"worker 0 instructions 0 pages 0 needs 0 reads 0 writes 0\n";
+    let squares = b"worker 0 instructions 21 pages 3 needs 2 reads 0 writes 0\n";
     let three = b"worker 0 instructions 5 pages 3 needs 1 reads 1 writes 1\n";
     let enough = b"worker 0 instructions 5 pages 3 needs 1 reads 0 writes 0\n";
     let classes = b"worker 0 instructions 6 pages 3 needs 2 reads 1 writes 1\n";
     let choice = b"worker 0 instructions 5 pages 4 needs 4 reads 0 writes 0\n";
     let one = "stats --source s --page 64 --frames 1 --buffer 0";
-    check(&rt, alloc, one, &[said(b"", b"", b"", empty)])?;
-    let squares = b"worker 0 instructions 21 pages 3 needs 2 reads 0 writes 0\n";
-    let source = "stats --source s";
-    check(&rt, alloc, source, &[said(SQUARES, b"", b"", squares)])?;
     let two = "stats --source s --page 64 --frames 2 --buffer 1";
-    check(&rt, alloc, two, &[said(THREE, b"", b"", three)])?;
     let more = "stats --source s --page 64 --frames 3 --buffer 0";
-    check(&rt, alloc, more, &[said(THREE, b"", b"", enough)])?;
-    let pair = "stats --frames 2 --page 64 --source s";
-    check(&rt, alloc, pair, &[said(CLASSES, b"", b"", classes)])?;
-    let four = "stats --source s --page 64 --frames 4";
-    check(&rt, alloc, four, &[said(CHOICE, b"", b"", choice)])
+    let rows = [
+        done(one, b"", b"", b"", empty),
+        done("stats --source s", SQUARES, b"", b"", squares),
+        done(two, THREE, b"", b"", three),
+        done(more, THREE, b"", b"", enough),
+        done(
+            "stats --frames 2 --page 64 --source s",
+            CLASSES,
+            b"",
+            b"",
+            classes,
+        ),
+        done(
+            "stats --source s --page 64 --frames 4",
+            CHOICE,
+            b"",
+            b"",
+            choice,
+        ),
+    ];
+    check(rt, alloc, &rows)
 }
 
-#[test]
-fn a_buffer_is_needed_where_pages_swap(rt: HostRuntime) -> Result<(), Fail> {
+// A buffer is needed where pages swap.
+fn no_slot(rt: &impl Abort, alloc: Global) -> Result<(), Fail> {
+    let stats = "stats --source s --page 64 --frames 2 --buffer 0";
+    let solo = "solo --source s --garbler g --page 64 --frames 2 --buffer 0";
+    let more = "solo --source s --garbler g --page 64 --frames 3 --buffer 0";
     let line = b"mage: limits: worker 0 instruction 2 needs a buffer slot\n";
-    let case = [refused(THREE, b"", b"", Status::Limits, line)];
-    let alloc = rt.alloc();
-    check(
-        &rt,
-        alloc,
-        "stats --source s --page 64 --frames 2 --buffer 0",
-        &case,
-    )?;
-    check(
-        &rt,
-        alloc,
-        "solo --source s --garbler g --page 64 --frames 2 --buffer 0",
-        &case,
-    )?;
-    check(
-        &rt,
-        alloc,
-        "solo --source s --garbler g --page 64 --frames 3 --buffer 0",
-        &[said(THREE, b"7\n8\n9", b"", b"7\n8\n")],
-    )
+    let rows = [
+        refused(stats, THREE, b"", b"", LIMITS, line),
+        refused(solo, THREE, b"", b"", LIMITS, line),
+        done(more, THREE, b"7\n8\n9", b"", b"7\n8\n"),
+    ];
+    check(rt, alloc, &rows)
 }
 
-#[test]
-fn an_instruction_may_need_more_frames(rt: HostRuntime) -> Result<(), Fail> {
-    let line = b"mage: limits: worker 0 instruction 3 needs 4 pages, has 3 frames\n";
-    let case = [refused(CHOICE, b"1\n5\n6", b"", Status::Limits, line)];
-    let alloc = rt.alloc();
-    check(&rt, alloc, "stats --source s --page 64 --frames 3", &case)?;
-    check(
-        &rt,
-        alloc,
-        "solo --source s --garbler g --page 64 --frames 3",
-        &case,
-    )?;
-    check(
-        &rt,
-        alloc,
-        "solo --source s --garbler g --page 64 --frames 4",
-        &[said(CHOICE, b"1\n5\n6", b"", b"5\n")],
-    )
-}
-
-// Too few frames are told before a buffer without a slot.
-#[test]
-fn frames_come_before_the_buffer(rt: HostRuntime) -> Result<(), Fail> {
-    let line = b"mage: limits: worker 0 instruction 3 needs 2 pages, has 1 frames\n";
-    let case = [refused(CLASSES, b"", b"", Status::Limits, line)];
-    let alloc = rt.alloc();
-    check(&rt, alloc, "stats --source s --page 64 --frames 1", &case)?;
-    check(
-        &rt,
-        alloc,
-        "stats --source s --page 64 --frames 1 --buffer 0",
-        &case,
-    )
+// An instruction may need more frames; too few frames are told before a buffer without a slot.
+fn few_frames(rt: &impl Abort, alloc: Global) -> Result<(), Fail> {
+    let stats = "stats --source s --page 64 --frames 3";
+    let solo = "solo --source s --garbler g --page 64 --frames 3";
+    let more = "solo --source s --garbler g --page 64 --frames 4";
+    let one = "stats --source s --page 64 --frames 1";
+    let none = "stats --source s --page 64 --frames 1 --buffer 0";
+    let four = b"mage: limits: worker 0 instruction 3 needs 4 pages, has 3 frames\n";
+    let two = b"mage: limits: worker 0 instruction 3 needs 2 pages, has 1 frames\n";
+    let rows = [
+        refused(stats, CHOICE, b"", b"", LIMITS, four),
+        refused(solo, CHOICE, b"1\n5\n6", b"", LIMITS, four),
+        done(more, CHOICE, b"1\n5\n6", b"", b"5\n"),
+        refused(one, CLASSES, b"", b"", LIMITS, two),
+        refused(none, CLASSES, b"", b"", LIMITS, two),
+    ];
+    check(rt, alloc, &rows)
 }
 
 // The language is tested before the limits, and the limits before the inputs.
+fn order_of_work(rt: &impl Abort, alloc: Global) -> Result<(), Fail> {
+    let stats = "stats --source s --frames 1 --buffer 0";
+    let solo = "solo --source s --garbler g --page 64 --frames 2 --buffer 0";
+    let missing = "solo --source s --garbler missing --page 64 --frames 2 --buffer 0";
+    let unknown = "solo --source s --garbler missing --evaluator missing";
+    let name = b"mage: source 1:8: UnknownName\n";
+    let slot = b"mage: limits: worker 0 instruction 2 needs a buffer slot\n";
+    let rows = [
+        refused(stats, b"output y;", b"", b"", Status::Language, name),
+        refused(unknown, b"output y;", b"", b"", Status::Language, name),
+        refused(solo, THREE, b"no number", b"", LIMITS, slot),
+        refused(missing, THREE, b"", b"", LIMITS, slot),
+    ];
+    check(rt, alloc, &rows)
+}
+
 #[test]
-fn the_order_of_work(rt: HostRuntime) -> Result<(), Fail> {
+fn plans_are_counted_and_limits_tested(rt: HostRuntime) -> Result<(), Fail> {
     let alloc = rt.alloc();
-    let unknown = b"mage: source 1:8: UnknownName\n";
-    let case = [refused(b"output y;", b"", b"", Status::Language, unknown)];
-    check(&rt, alloc, "stats --source s --frames 1 --buffer 0", &case)?;
-    let line = b"mage: limits: worker 0 instruction 2 needs a buffer slot\n";
-    let case = [refused(THREE, b"no number", b"", Status::Limits, line)];
-    check(
-        &rt,
-        alloc,
-        "solo --source s --garbler g --page 64 --frames 2 --buffer 0",
-        &case,
-    )?;
-    check(
-        &rt,
-        alloc,
-        "solo --source s --garbler missing --page 64 --frames 2 --buffer 0",
-        &case,
-    )
+    costs(&rt, alloc)?;
+    no_slot(&rt, alloc)?;
+    few_frames(&rt, alloc)?;
+    order_of_work(&rt, alloc)
 }

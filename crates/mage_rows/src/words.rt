@@ -1,7 +1,9 @@
-// The words of the commands.
-use crate::cases::{SUM, desk_with, words_of};
+// The words of the commands, and the exit codes.
+use crate::cases::{SUM, check, desk_with, done, refused};
 use mage_base::DeskFails;
 use mage_planner::{Status, planner};
+use std::alloc::Global;
+use std::process::Abort;
 use std::test::Fail;
 
 const BAD_WORDS: &[u8] = b"mage: bad words\n";
@@ -27,36 +29,38 @@ const LINES: [&str; 17] = [
     "Stats --source s",
 ];
 
-#[test]
-fn other_words_are_refused(rt: HostRuntime) -> Result<(), Fail> {
-    let alloc = rt.alloc();
+fn no_words(rt: &impl Abort, alloc: Global) -> Result<(), Fail> {
     let fails = DeskFails::none(alloc);
     let mut desk = desk_with(alloc, &fails, 1000, SUM, b"200", b"100")?;
     assert_eq!(rt; planner(alloc, &[], &mut desk), Status::Words);
     assert_eq!(rt; desk.warned(), BAD_WORDS);
+    Ok(())
+}
+
+#[test]
+fn words_are_read(rt: HostRuntime) -> Result<(), Fail> {
+    let alloc = rt.alloc();
+    no_words(&rt, alloc)?;
     for line in LINES {
-        let words = words_of(alloc, line)?;
-        let mut desk = desk_with(alloc, &fails, 1000, SUM, b"200", b"100")?;
-        assert_eq!(rt; planner(alloc, &words, &mut desk), Status::Words, "{line}");
-        assert_eq!(rt; desk.warned(), BAD_WORDS, "{line}");
-        assert_eq!(rt; desk.said(), b"".as_slice(), "{line}");
+        let row = refused(line, SUM, b"200", b"100", Status::Words, BAD_WORDS);
+        check(&rt, alloc, &[row])?;
+    }
+    for line in [
+        "solo --source s --garbler g --evaluator e --page 65536 --frames 56",
+        "solo --evaluator e --driver plain --garbler g --source s",
+    ] {
+        check(&rt, alloc, &[done(line, SUM, b"200", b"100", b"44\n")])?;
     }
     Ok(())
 }
 
 #[test]
-fn options_of_solo(rt: HostRuntime) -> Result<(), Fail> {
-    let alloc = rt.alloc();
-    let fails = DeskFails::none(alloc);
-    for line in [
-        "solo --source s --garbler g --evaluator e --page 65536 --frames 56",
-        "solo --evaluator e --driver plain --garbler g --source s",
-    ] {
-        let words = words_of(alloc, line)?;
-        let mut desk = desk_with(alloc, &fails, 1000, SUM, b"200", b"100")?;
-        assert_eq!(rt; planner(alloc, &words, &mut desk), Status::Ok, "{line}");
-        assert_eq!(rt; desk.said(), b"44\n".as_slice(), "{line}");
-        assert_eq!(rt; desk.warned(), b"".as_slice(), "{line}");
-    }
-    Ok(())
+fn codes(rt: HostRuntime) {
+    assert_eq!(rt; Status::Ok.code(), 0);
+    assert_eq!(rt; Status::Words.code(), 2);
+    assert_eq!(rt; Status::Language.code(), 3);
+    assert_eq!(rt; Status::Limits.code(), 4);
+    assert_eq!(rt; Status::InputText.code(), 6);
+    assert_eq!(rt; Status::Desk.code(), 7);
+    assert_eq!(rt; Status::Memory.code(), 9);
 }

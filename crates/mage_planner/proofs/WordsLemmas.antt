@@ -1,0 +1,165 @@
+-- Only words that ask for nothing come to the refusal of words.
+use Rattle.std.proofs.Common.{◌≡◌, ℕ, List, true, Option, Some, None, Result, Ok, Err, ok_or, refl, inl, inr}
+use Rattle.mage_chains.specs.Chains.{◌>>=◌}
+use Rattle.mage_base.specs.Desk.{DeskTold}
+use Rattle.mage_instr.specs.declared.party.Party.{Party}
+use Rattle.mage_instr.specs.declared.party.Party.TheVariants as party
+use Rattle.mage_instr.specs.declared.replaced.Limits.{Limits}
+use Rattle.mage_instr.specs.Inputs.{input_widths_of}
+use Rattle.mage_lex.specs.declared.fault.LangFault.{LangFault}
+use Rattle.mage_lex.specs.declared.fault.LangFault.TheVariants as lang
+use Rattle.mage_pipe.specs.declared.loaded.Loaded.{Loaded}
+use Rattle.mage_pipe.specs.declared.fault.PlanFault.{PlanFault}
+use Rattle.mage_pipe.specs.declared.fault.PlanFault.TheVariants as plan
+use Rattle.mage_pipe.specs.Loading.{loaded_of}
+use Rattle.mage_pipe.specs.Summary.{stats_of}
+use Rattle.mage_texts.specs.InputText.{inputs_of}
+use Rattle.mage_words.specs.Words.{Request, Solo, Stats, SoloRequest, StatsRequest, request_of}
+use Rattle.mage_planner.specs.declared.refusal.Refusal.{Refusal}
+use Rattle.mage_planner.specs.declared.refusal.Refusal.TheVariants as refusal
+use Rattle.mage_planner.specs.declared.status.Status.{Status}
+use Rattle.mage_planner.specs.declared.status.Status.TheVariants as status
+use Rattle.mage_planner.specs.Lines.{status_of}
+use Rattle.mage_planner.specs.Outcome.{File, Absent, Long, Held, Found, Done, says, bytes_or, or_language, or_limits, or_line, long_source, said_of, source_of, costs_of, if_planned, planned_of, numbers_of, solo_outcome, stats_outcome, outcome_for, outcome_of}
+use Rattle.mage_planner.specs.SummaryText.{summary_text}
+use Rattle.mage_planner.specs.Warned.{IsOrMemory}
+use Rattle.mage_planner.specs.Answer.{Works, ComesFrom, IsWordsOrMemory}
+
+-- another refusal than that of the words, or none
+abbrev IsOther : Refusal → Type 0
+IsOther refusal.Words = ⊥
+IsOther other = Unit {0}
+
+abbrev NoWords : {T : Type 0} → Result T Refusal → Type 0
+NoWords (Ok x) = Unit {0}
+NoWords (Err other) = IsOther other
+
+then_other : {A B : Type 0} (r : Result A Refusal) (f : A → Result B Refusal)
+    → NoWords r → ((x : A) → NoWords (f x)) → NoWords (r >>= f)
+then_other (Ok x) f first next = next x
+then_other (Err other) f first next = first
+
+bytes_other : (too_long : Refusal) (file : File) → IsOther too_long
+    → NoWords (bytes_or too_long file)
+bytes_other too_long Absent other = tt
+bytes_other too_long Long other = other
+bytes_other too_long (Held bytes) other = tt
+
+language_other : {T : Type 0} (r : Result T LangFault) → NoWords (or_language r)
+language_other (Ok x) = tt
+language_other (Err (lang.At kind line column)) = tt
+language_other (Err lang.Memory) = tt
+
+limits_other : {T : Type 0} (r : Result T PlanFault) → NoWords (or_limits r)
+limits_other (Ok x) = tt
+limits_other (Err (plan.Lang (lang.At kind line column))) = tt
+limits_other (Err (plan.Lang lang.Memory)) = tt
+limits_other (Err (plan.Tight worker tight)) = tt
+limits_other (Err plan.Memory) = tt
+
+line_other : (whose : Party) (r : Result (List (List ℕ)) ℕ) → NoWords (or_line whose r)
+line_other whose (Ok numbers) = tt
+line_other whose (Err line) = tt
+
+source_other : (file : File) → NoWords (source_of file)
+unfolding source_of
+source_other file =
+    then_other (bytes_or long_source file) (λ text. or_language (loaded_of text))
+    (bytes_other long_source file tt) (λ text. language_other (loaded_of text))
+
+costs_other : (limits : Limits) (loaded : Loaded) → NoWords (costs_of limits loaded)
+costs_other limits loaded = limits_other (stats_of limits loaded.program.workers)
+
+if_planned_other : (limits : Limits) (loaded : Loaded) → NoWords (if_planned limits loaded)
+unfolding if_planned
+if_planned_other limits loaded =
+    then_other (costs_of limits loaded) (λ costs. Ok loaded) (costs_other limits loaded)
+    (λ costs. tt)
+
+planned_other : (limits : Limits) (file : File) → NoWords (planned_of limits file)
+unfolding planned_of
+planned_other limits file =
+    then_other (source_of file) (if_planned limits) (source_other file)
+    (λ loaded. if_planned_other limits loaded)
+
+numbers_other : (whose : Party) (loaded : Loaded) (file : File)
+    → NoWords (numbers_of whose loaded file)
+unfolding numbers_of
+numbers_other whose loaded file =
+    then_other (bytes_or (refusal.InputTooLong whose) file)
+    (λ text. or_line whose (inputs_of text (input_widths_of whose loaded.program)))
+    (bytes_other (refusal.InputTooLong whose) file tt)
+    (λ text. line_other whose (inputs_of text (input_widths_of whose loaded.program)))
+
+solo_other : (found : Found) (solo : SoloRequest) → NoWords (solo_outcome found solo)
+unfolding solo_outcome
+solo_other found solo =
+    then_other (planned_of solo.limits found.source) _
+    (planned_other solo.limits found.source) (λ loaded.
+    then_other (numbers_of party.Garbler loaded found.garbler) _
+    (numbers_other party.Garbler loaded found.garbler) (λ garbler.
+    then_other (numbers_of party.Evaluator loaded found.evaluator)
+    (λ evaluator. Ok (says (said_of loaded (record { garbler = garbler; evaluator = evaluator }))))
+    (numbers_other party.Evaluator loaded found.evaluator) (λ evaluator. tt)))
+
+stats_other : (found : Found) (stats : StatsRequest) → NoWords (stats_outcome found stats)
+unfolding stats_outcome
+stats_other found stats =
+    then_other (source_of found.source) _ (source_other found.source) (λ loaded.
+    then_other (costs_of stats.limits loaded) (λ costs. Ok (says (summary_text costs)))
+    (costs_other stats.limits loaded) (λ costs. tt))
+
+request_other : (found : Found) (request : Request) → NoWords (outcome_for found request)
+request_other found (Solo solo) = solo_other found solo
+request_other found (Stats stats) = stats_other found stats
+
+words_only : (outcome : Result Done Refusal) → NoWords outcome → outcome ≡ Err refusal.Words → ⊥
+words_only (Ok done) other e = cc
+words_only (Err why) other e = words_not why other (cc) where
+  words_not : (why : Refusal) → IsOther why → why ≡ refusal.Words → ⊥
+  words_not refusal.Words other e = other
+  words_not why other e = cc
+
+-- the words ask for nothing where the outcome is their refusal
+asks_nothing : (found : Found) (asked : Option Request)
+    → (ok_or asked refusal.Words >>= outcome_for found) ≡ Err refusal.Words → asked ≡ None
+asks_nothing found None e = refl
+asks_nothing found (Some request) e =
+    absurd (words_only (outcome_for found request) (request_other found request) e)
+
+is_words : (why : Refusal) → status_of why ≡ status.Words → why ≡ refusal.Words
+is_words refusal.Words e = refl
+is_words why e = cc
+
+-- what comes from the refusal of words
+from_words : (why : Refusal) → ComesFrom true (Err refusal.Words) why
+    → IsWordsOrMemory (status_of why)
+from_words refusal.Words comes = tt
+from_words refusal.Memory comes = tt
+from_words refusal.Desk comes = let e = comes refl in cc
+from_words why comes = cc
+
+-- the status of a warned refusal is that of the words just where these ask for nothing, but for want of
+-- memory
+pub words_refused : (own warned : Refusal) (answer : Status)
+    → answer ≡ status_of warned → IsOrMemory own warned
+    → (words : List (List ℕ)) (before between : DeskTold)
+    → (found : Found) × Works {T = Unit {0}} true (outcome_of found words) (Err own) before between
+    → (answer ≡ status.Words → request_of words ≡ None)
+    × (request_of words ≡ None → IsWordsOrMemory answer)
+unfolding outcome_of
+words_refused own warned answer is (inl same) words before between works = (
+  λ answered. let e = is_words warned (rw (← is) answered) in
+      asks_nothing works.0 (request_of words) (rw (← same, e) at works.1.0),
+  λ nothing. rw is (from_words warned (rw same (rw nothing at works.1.0))),
+)
+words_refused own warned answer is (inr memory) words before between works =
+    (λ answered. cc, λ nothing. rw (is, memory.0) tt)
+
+-- nothing is done where the words ask for nothing
+pub words_done : (words : List (List ℕ)) (before after : DeskTold)
+    → (found : Found) × Works {T = Unit {0}} true (outcome_of found words) (Ok tt) before after
+    → (status.Ok ≡ status.Words → request_of words ≡ None)
+    × (request_of words ≡ None → IsWordsOrMemory status.Ok)
+unfolding outcome_of
+words_done words before after works = (λ same. cc, λ nothing. rw nothing at works.1)
