@@ -6,7 +6,7 @@ use crate::lists::{long_lived, short_lived};
 use mage_base::Memory;
 use mage_instr::{NEVER, Place};
 use mage_next::next_uses;
-use mage_place::place;
+use mage_place::{page_tight, place};
 use std::alloc::Global;
 
 /// How many pages there are, how many steps, and how many of the pages of steps are used again.
@@ -26,19 +26,22 @@ pub fn report_of(alloc: Global, job: Job) -> Result<Report, Memory>
         Lives::Wide => short_lived(alloc, job.count, 64)?,
         Lives::Long => long_lived(alloc, job.count)?,
     };
-    let instructions = list.len();
+    let unplaced = Report {
+        instructions: list.len(),
+        pages: 0,
+        steps: 0,
+        uses: 0,
+    };
     if !job.placed {
-        return Ok(Report {
-            instructions,
-            pages: 0,
-            steps: 0,
-            uses: 0,
-        });
+        return Ok(unplaced);
+    }
+    if let Some(_) = page_tight(&list, job.page) {
+        return Ok(unplaced);
     }
     let (places, trace) = place(alloc, &list, job.page)?;
     let uses = next_uses(alloc, &trace)?;
     Ok(Report {
-        instructions,
+        instructions: list.len(),
         pages: pages_of(&places),
         steps: trace.len(),
         uses: later_uses(&uses),

@@ -2,3 +2,4 @@ pub mod Pages
 pub mod FileTables
 pub mod Ledgers
 pub mod FailLists
+pub mod Stores

@@ -98,7 +98,9 @@ impl<F: Read + Write + Seek + Drop> Store for FileStore<F> {
     }
 
     fn write(&mut self, page: u32, from: &[u8]) -> Result<(), Failed> {
-        if self.writes == u64::MAX || write_at(&mut self.file, page, self.page_bytes, from).is_err() {
+        if self.writes == u64::MAX
+            || write_at(&mut self.file, page, self.page_bytes, from).is_err()
+        {
             self.faults = self.faults.saturating_add(1);
             return Err(Failed);
         }

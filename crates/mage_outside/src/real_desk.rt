@@ -89,7 +89,11 @@ fn fetch_file<R: Files>(rt: &R, alloc: Global, name: &str, limit: u64) -> Result
     }
 }
 
-fn open_source<R: Files>(rt: &R, alloc: Global, name: &str) -> Result<FileSource<R::File>, DeskError>
+fn open_source<R: Files>(
+    rt: &R,
+    alloc: Global,
+    name: &str,
+) -> Result<FileSource<R::File>, DeskError>
     ensures fresh { IfOk result (λ source. source.faults ≡ 0) }
     ensures short { IsNotTooLong result }
 {
@@ -152,7 +156,9 @@ where
     R::File: Send,
 {
     type Input = FileSource<R::File>;
+
     type Output = FileSink<R::File>;
+
     type Pages = FileStore<R::File>;
 
     ghost tells = { λ desk. untold_desk desk.faults desk.ledger };

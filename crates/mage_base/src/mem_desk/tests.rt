@@ -1,192 +1,176 @@
+ghost use Rattle.std.specs.Prelude.{◌≡◌};
+
 use super::*;
 use crate::{Items, Sink, Source, Store};
+use std::process::Abort;
 use std::test::Fail;
 
-// A desk with one file of three bytes, room for four bytes to be said, and these failing calls.
-fn desk_with(alloc: Global, failing: &[u64]) -> Result<MemDesk, Memory> {
-    let mut fails = DeskFails::none(alloc);
-    fails.desk = Items::from_slice(alloc, failing)?;
-    let mut desk = MemDesk::make(alloc, 4, &fails)?;
+// A desk with two files and room for four bytes to be said.
+fn desk_with(alloc: Global, fails: &DeskFails) -> Result<MemDesk, Memory> {
+    let mut desk = MemDesk::make(alloc, 4, fails)?;
     desk.add("plan", b"abc")?;
+    desk.add("other", b"xy")?;
     Ok(desk)
 }
 
-// Fetches through the trait, as the crates above do.
-fn fetch_by<D: Desk>(
-    desk: &mut D,
-    alloc: Global,
-    name: &str,
-    limit: u64,
-) -> Result<Vec<u8>, DeskError> {
-    desk.fetch(alloc, name, limit)
-}
+// These call through the traits, as the crates above do.
 
-fn read_by<D: Desk>(desk: &mut D, alloc: Global, name: &str) -> bool {
-    match desk.open_in(alloc, name) {
-        Ok(source) => {
-            desk.close_in(name, source);
-            true
-        }
-        Err(_) => false,
+// How many bytes a fetch gives.
+fn fetch_by<D: Desk>(desk: &mut D, alloc: Global, name: &str) -> Result<usize, DeskError> {
+    match desk.fetch(alloc, name, 4) {
+        Ok(bytes) => Ok(bytes.len()),
+        Err(error) => Err(error),
     }
 }
 
-// Whether the file could be opened, and then closed again, after these bytes were put one by one.
-fn write_by<D: Desk>(desk: &mut D, alloc: Global, name: &str, bytes: &[u8]) -> [bool; 2] {
-    let Ok(mut sink) = desk.open_out(alloc, name, 4) else {
-        return [false, false];
+// Opens a source, takes once and closes it. Which of the calls failed.
+fn take_by<D: Desk>(desk: &mut D, alloc: Global, name: &str) -> &'static str {
+    let Ok(mut source) = desk.open_in(alloc, name) else {
+        return "open_in";
     };
-    for byte in bytes {
-        let _ = sink.put(&[*byte]);
-    }
-    [true, desk.close_out(name, sink).is_ok()]
+    let taken = source.take(&mut [0; 4]).is_ok();
+    desk.close_in(name, source);
+    if taken { "" } else { "take" }
 }
 
-// Whether a store could be had; it is given back after one write and two reads of its only page.
-fn store_by<D: Desk>(desk: &mut D, alloc: Global, worker: u16, shard: u16) -> bool {
-    let Ok(mut store) = desk.store(alloc, worker, shard, 1, 2) else {
-        return false;
+// Opens a sink, puts three bytes one by one and closes it. Which of the calls on the desk failed.
+fn put_by<D: Desk>(desk: &mut D, alloc: Global, name: &str) -> &'static str {
+    let Ok(mut sink) = desk.open_out(alloc, name, 2) else {
+        return "open_out";
     };
+    for byte in [b'x', b'y', b'z'] {
+        let _ = sink.put(&[byte]);
+    }
+    let closed = desk.close_out(name, sink).is_ok();
+    if closed { "" } else { "close_out" }
+}
+
+fn use_store<S: Store>(store: &mut S)
+    requires { (S.tells store.old).page_bytes ≡ 2 }
+{
     let mut page = [0; 2];
     let _ = store.write(0, &page);
     let _ = store.read(0, &mut page);
     let _ = store.read(0, &mut page);
+}
+
+// Whether a store could be had; its only page is written once and read twice.
+fn store_by<D: Desk>(desk: &mut D, alloc: Global, worker: u16, shard: u16) -> bool {
+    let Ok(mut store) = desk.store(alloc, worker, shard, 1, 2) else {
+        return false;
+    };
+    use_store(&mut store);
     desk.give_store(worker, shard, store);
     true
 }
 
-fn say_by<D: Desk>(desk: &mut D, bytes: &[u8]) -> Result<(), Failed> {
-    desk.say(bytes)
+fn say_by<D: Desk>(desk: &mut D, bytes: &[u8]) -> bool {
+    desk.say(bytes).is_ok()
 }
 
-fn warn_by<D: Desk>(desk: &mut D, bytes: &[u8]) -> Result<(), Failed> {
-    desk.warn(bytes)
+fn warn_by<D: Desk>(desk: &mut D, bytes: &[u8]) -> bool {
+    desk.warn(bytes).is_ok()
 }
 
-// Which calls succeed, each kind being called once in the order of their names here.
-fn each_call(desk: &mut MemDesk, alloc: Global) -> [bool; 7] {
-    let fetched = fetch_by(desk, alloc, "plan", 3).is_ok();
-    let opened_in = read_by(desk, alloc, "plan");
-    let [opened_out, closed_out] = write_by(desk, alloc, "out", b"");
-    let lent = store_by(desk, alloc, 0, 0);
-    let said = say_by(desk, b"x").is_ok();
-    let warned = warn_by(desk, b"y").is_ok();
-    [
-        fetched, opened_in, opened_out, closed_out, lent, said, warned,
-    ]
+// The first of the seven kinds of call that fails, each being called once in this order.
+fn first_failure(desk: &mut MemDesk, alloc: Global) -> &'static str {
+    if fetch_by(desk, alloc, "plan").is_err() {
+        return "fetch";
+    }
+    let taken = take_by(desk, alloc, "plan");
+    if !taken.is_empty() {
+        return taken;
+    }
+    let put = put_by(desk, alloc, "out");
+    if !put.is_empty() {
+        return put;
+    }
+    if !store_by(desk, alloc, 0, 0) {
+        return "store";
+    }
+    if !say_by(desk, b"x") {
+        return "say";
+    }
+    if warn_by(desk, b"y") { "" } else { "warn" }
+}
+
+fn fails_at(rt: &impl Abort, alloc: Global, listed: u64, call: &str) -> Result<(), Memory> {
+    let mut fails = DeskFails::none(alloc);
+    fails.desk.push(listed)?;
+    let mut desk = desk_with(alloc, &fails)?;
+    assert_eq!(rt; first_failure(&mut desk, alloc), call);
+    assert_eq!(rt; first_failure(&mut desk, alloc), "", "after {call}");
+    Ok(())
 }
 
 // The calls are numbered over all kinds together.
 #[test]
 fn fails_where_listed(rt: HostRuntime) -> Result<(), Fail> {
     let alloc = rt.alloc();
-    for listed in 0..8 {
-        let mut want = [true; 7];
-        if listed < 7 {
-            want[listed] = false;
-        }
-        want[3] = want[2] && want[3];
-        let mut desk = desk_with(alloc, &[listed as u64])?;
-        assert_eq!(rt; each_call(&mut desk, alloc), want, "{listed}");
-        assert_eq!(rt; desk.faults, u64::from(listed < 7), "{listed}");
-        assert_eq!(rt; desk.said().len(), usize::from(listed != 5), "{listed}");
-        assert_eq!(rt; desk.warned().len(), usize::from(listed != 6), "{listed}");
-    }
-    Ok(())
-}
-
-#[test]
-fn fetches_says_and_warns_within_its_limits(rt: HostRuntime) -> Result<(), Fail> {
-    let alloc = rt.alloc();
-    let mut desk = desk_with(alloc, &[])?;
-    let rows = [
-        ("plan", 3, Ok("abc")),
-        ("plan", u64::MAX, Ok("abc")),
-        ("plan", 2, Err(DeskError::TooLong)),
-        ("Plan", 3, Err(DeskError::Fault)),
-    ];
-    for (name, limit, want) in rows {
-        let found = fetch_by(&mut desk, alloc, name, limit);
-        match want {
-            Ok(text) => assert_eq!(rt; found?.as_slice(), text.as_bytes(), "{name} {limit}"),
-            Err(error) => assert_eq!(rt; found.err(), Some(error), "{name} {limit}"),
-        }
-    }
-    assert_eq!(rt; desk.faults, 1);
-    desk.faults = u64::MAX;
-    let rows = [
-        ("abc", true, "abc"),
-        ("d", true, "abcd"),
-        ("", true, "abcd"),
-        ("ef", false, "abcd"),
-    ];
-    for (bytes, well, so_far) in rows {
-        assert_eq!(rt;
-            say_by(&mut desk, bytes.as_bytes()).is_ok(),
-            well,
-            "{bytes}"
-        );
-        assert_eq!(rt;
-            warn_by(&mut desk, bytes.as_bytes()).is_ok(),
-            well,
-            "{bytes}"
-        );
-        assert_eq!(rt; desk.said(), so_far.as_bytes(), "{bytes}");
-        assert_eq!(rt; desk.warned(), so_far.as_bytes(), "{bytes}");
-    }
-    assert_eq!(rt; desk.faults, u64::MAX);
+    fails_at(&rt, alloc, 0, "fetch")?;
+    fails_at(&rt, alloc, 1, "open_in")?;
+    fails_at(&rt, alloc, 2, "open_out")?;
+    fails_at(&rt, alloc, 3, "close_out")?;
+    fails_at(&rt, alloc, 4, "store")?;
+    fails_at(&rt, alloc, 5, "say")?;
+    fails_at(&rt, alloc, 6, "warn")?;
     Ok(())
 }
 
 // The first call of the source `plan`, the second of the sink `out` and the first of a store are to fail.
-fn failing_objects(alloc: Global) -> Result<MemDesk, Memory> {
+fn failing_objects(alloc: Global) -> Result<DeskFails, Memory> {
     let mut fails = DeskFails::none(alloc);
     let first = Items::from_slice(alloc, &[0])?;
     fails.stores.push((2, 1, first))?;
     let second = Items::from_slice(alloc, &[1])?;
-    fails
-        .outputs
-        .push((String::from_str(alloc, "out")?, second))?;
+    let out = String::from_str(alloc, "out")?;
+    fails.outputs.push((out, second))?;
     let first = Items::from_slice(alloc, &[0])?;
-    fails
-        .inputs
-        .push((String::from_str(alloc, "plan")?, first))?;
-    let mut desk = MemDesk::make(alloc, 4, &fails)?;
-    desk.add("plan", b"abc")?;
-    desk.add("other", b"xy")?;
-    Ok(desk)
+    let plan = String::from_str(alloc, "plan")?;
+    fails.inputs.push((plan, first))?;
+    Ok(fails)
 }
 
-fn take_by<D: Desk>(desk: &mut D, alloc: Global, name: &str) -> Option<usize> {
-    let mut source = desk.open_in(alloc, name).ok()?;
-    let taken = source.take(&mut [0; 4]).ok();
-    desk.close_in(name, source);
-    taken
+fn faults(rt: &impl Abort, desk: &MemDesk, faults: u64) {
+    assert_eq!(rt; desk.faults, faults);
+}
+
+// Uses a store of worker 2, and looks at the sums of that worker.
+fn stores(rt: &impl Abort, desk: &mut MemDesk, alloc: Global, shard: u16, reads: u64, writes: u64) {
+    assert!(rt; store_by(desk, alloc, 2, shard), "{shard}");
+    assert_eq!(rt; desk.reads(2), reads, "{shard}");
+    assert_eq!(rt; desk.writes(2), writes, "{shard}");
 }
 
 #[test]
 fn hands_out_what_fails_where_listed(rt: HostRuntime) -> Result<(), Fail> {
     let alloc = rt.alloc();
-    let mut desk = failing_objects(alloc)?;
-    assert_eq!(rt; take_by(&mut desk, alloc, "other"), Some(2));
-    assert_eq!(rt; desk.faults, 0);
-    assert_eq!(rt; take_by(&mut desk, alloc, "plan"), None);
-    assert_eq!(rt; desk.faults, 1);
-    assert_eq!(rt; write_by(&mut desk, alloc, "out", b"abcde"), [true, true]);
-    assert_eq!(rt; desk.faults, 2);
-    assert_eq!(rt;
-        fetch_by(&mut desk, alloc, "out", 9)?.as_slice(),
-        b"acde".as_slice()
-    );
-    assert_eq!(rt;
-        fetch_by(&mut desk, alloc, "other", 9)?.as_slice(),
-        b"xy".as_slice()
-    );
-    for (shard, reads, writes) in [(1, 2, 0), (0, 4, 1), (1, 6, 1)] {
-        assert!(rt; store_by(&mut desk, alloc, 2, shard), "{shard}");
-        assert_eq!(rt; [desk.reads(2), desk.writes(2)], [reads, writes], "{shard}");
-    }
-    assert_eq!(rt; [desk.reads(1), desk.writes(7)], [0, 0]);
-    assert_eq!(rt; desk.faults, 2);
+    let mut desk = desk_with(alloc, &failing_objects(alloc)?)?;
+    assert_eq!(rt; take_by(&mut desk, alloc, "other"), "");
+    faults(&rt, &desk, 0);
+    assert_eq!(rt; take_by(&mut desk, alloc, "plan"), "take");
+    faults(&rt, &desk, 1);
+    assert_eq!(rt; put_by(&mut desk, alloc, "out"), "");
+    faults(&rt, &desk, 2);
+    assert_eq!(rt; fetch_by(&mut desk, alloc, "out"), Ok(2));
+    stores(&rt, &mut desk, alloc, 1, 2, 0);
+    stores(&rt, &mut desk, alloc, 0, 4, 1);
+    Ok(())
+}
+
+#[test]
+fn fails_for_want_of_a_file_or_of_room(rt: HostRuntime) -> Result<(), Fail> {
+    let alloc = rt.alloc();
+    let mut desk = desk_with(alloc, &DeskFails::none(alloc))?;
+    desk.add("long", b"abcde")?;
+    assert_eq!(rt; fetch_by(&mut desk, alloc, "long"), Err(DeskError::TooLong));
+    assert_eq!(rt; fetch_by(&mut desk, alloc, "Plan"), Err(DeskError::Fault));
+    faults(&rt, &desk, 1);
+    desk.faults = u64::MAX;
+    assert!(rt; say_by(&mut desk, b"abcd") && !say_by(&mut desk, b"e"));
+    assert!(rt; warn_by(&mut desk, b"fg") && !warn_by(&mut desk, b"hij"));
+    assert_eq!(rt; desk.said(), b"abcd".as_slice());
+    assert_eq!(rt; desk.warned(), b"fghi".as_slice());
+    faults(&rt, &desk, u64::MAX);
     Ok(())
 }

@@ -1,68 +1,67 @@
 use super::*;
+use std::process::Abort;
 use std::test::Fail;
 
-// Writes a page of three equal bytes through the trait, or else reads the page. Gives what was read, or why not.
-fn move_by<S: Store>(store: &mut S, page: u32, byte: Option<u8>) -> Result<[u8; 3], Failed> {
+// Reads a page of three bytes.
+fn reads(rt: &impl Abort, store: &mut MemStore, page: u32, want: Option<&str>) {
     let mut into = [b'-'; 3];
-    match byte {
-        Some(byte) => store.write(page, &[byte; 3])?,
-        None => store.read(page, &mut into)?,
-    }
-    Ok(into)
+    assert!(rt; store.page_bytes == 3);
+    let well = store.read(page, &mut into).is_ok();
+    assert_eq!(rt; well, want.is_some(), "{page}");
+    assert_eq!(rt; into.as_slice(), want.unwrap_or("---").as_bytes(), "{page}");
 }
 
-fn counts(store: &MemStore) -> [u64; 3] {
-    let counts = store.counts();
-    [counts.reads, counts.writes, counts.faults]
+// Writes a page of three equal bytes.
+fn writes(rt: &impl Abort, store: &mut MemStore, page: u32, byte: u8, well: bool) {
+    assert!(rt; store.page_bytes == 3);
+    assert_eq!(rt;
+        store.write(page, &[byte; 3]).is_ok(),
+        well,
+        "{page} {byte}"
+    );
+}
+
+fn counts(rt: &impl Abort, store: &MemStore, reads: u64, writes: u64, faults: u64) {
+    let want = StoreCounts {
+        reads,
+        writes,
+        faults,
+    };
+    assert_eq!(rt; store.counts(), want);
 }
 
 // Of two pages; the calls with the numbers 3 and 4 are to fail.
 #[test]
 fn keeps_pages_and_fails_where_listed(rt: HostRuntime) -> Result<(), Fail> {
-    let alloc = rt.alloc();
-    let mut store = MemStore::make(alloc, 2, 3, &[3, 4])?;
-    let rows = [
-        (1, None, Ok(*b"\0\0\0"), [1, 0, 0]),
-        (1, Some(b'b'), Ok(*b"---"), [1, 1, 0]),
-        (0, Some(b'a'), Ok(*b"---"), [1, 2, 0]),
-        (1, Some(b'c'), Err(Failed), [1, 2, 1]),
-        (1, None, Err(Failed), [1, 2, 2]),
-        (1, None, Ok(*b"bbb"), [2, 2, 2]),
-        (2, None, Err(Failed), [2, 2, 3]),
-        (2, Some(b'c'), Err(Failed), [2, 2, 4]),
-        (0, None, Ok(*b"aaa"), [3, 2, 4]),
-    ];
-    for (page, byte, want, after) in rows {
-        assert_eq!(rt; move_by(&mut store, page, byte), want, "{page} {byte:?}");
-        assert_eq!(rt; counts(&store), after, "{page} {byte:?}");
-    }
+    let mut store = MemStore::make(rt.alloc(), 2, 3, &[3, 4])?;
+    reads(&rt, &mut store, 1, Some("\0\0\0"));
+    writes(&rt, &mut store, 1, b'b', true);
+    writes(&rt, &mut store, 0, b'a', true);
+    writes(&rt, &mut store, 1, b'c', false);
+    reads(&rt, &mut store, 1, None);
+    reads(&rt, &mut store, 1, Some("bbb"));
+    counts(&rt, &store, 2, 2, 2);
+    reads(&rt, &mut store, 2, None);
+    writes(&rt, &mut store, 2, b'c', false);
+    reads(&rt, &mut store, 0, Some("aaa"));
+    counts(&rt, &store, 3, 2, 4);
     Ok(())
 }
 
 #[test]
 fn fails_at_the_top_of_its_count(rt: HostRuntime) -> Result<(), Fail> {
-    let alloc = rt.alloc();
     let top = u64::MAX;
-    let mut store = MemStore::make(alloc, 1, 3, &[])?;
+    let mut store = MemStore::make(rt.alloc(), 1, 3, &[])?;
     store.reads = top - 1;
-    let rows = [
-        (None, true, [top, 0, 0]),
-        (None, false, [top, 0, 1]),
-        (Some(b'a'), true, [top, 1, 1]),
-    ];
-    for (byte, well, after) in rows {
-        assert_eq!(rt; move_by(&mut store, 0, byte).is_ok(), well, "{byte:?}");
-        assert_eq!(rt; counts(&store), after, "{byte:?}");
-    }
+    reads(&rt, &mut store, 0, Some("\0\0\0"));
+    reads(&rt, &mut store, 0, None);
+    writes(&rt, &mut store, 0, b'a', true);
+    counts(&rt, &store, top, 1, 1);
     store.reads = 0;
     store.writes = top;
     store.faults = top;
-    for (byte, well, after) in [
-        (Some(b'b'), false, [0, top, top]),
-        (None, true, [1, top, top]),
-    ] {
-        assert_eq!(rt; move_by(&mut store, 0, byte).is_ok(), well, "{byte:?}");
-        assert_eq!(rt; counts(&store), after, "{byte:?}");
-    }
+    writes(&rt, &mut store, 0, b'b', false);
+    reads(&rt, &mut store, 0, Some("aaa"));
+    counts(&rt, &store, 1, top, top);
     Ok(())
 }
