@@ -1,9 +1,9 @@
 -- How circuits that were made in part go on. Crates that make circuits cite these.
-use Rattle.std.proofs.Common.{◌≡◌, List, [], ◌∷◌, ◌++◌, Result, Ok, Err, inl, inr, refl, ap, sym, subst, ◌∙◌}
+use Rattle.std.proofs.Common.{◌≡◌, List, [], ◌∷◌, ◌++◌, Ok, inl, inr, refl, ap, sym, subst}
 use Rattle.mage_instr.specs.declared.fault.DriverFault.{DriverFault}
 use Rattle.mage_driver.specs.declared.standing.Standing.TheVariants as standing
 use Rattle.mage_driver.specs.Rules.{Rules}
-use Rattle.mage_driver.specs.Calls.{Told, And, Call, call_of, Asked, NoneIsDue, SomeStops, Fell}
+use Rattle.mage_driver.specs.Calls.{Told, And, Call, Asked, NoneIsDue, SomeStops, Fell}
 use Rattle.mage_driver.specs.Circuits.{Circuit, given, followed, formed, anded, inverted, folded, Went}
 
 module _ {W : Type 0} (rules : Rules W) where

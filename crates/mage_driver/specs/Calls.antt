@@ -1,5 +1,5 @@
 -- Calls of a driver in a row, and what they leave in it.
-use Rattle.std.specs.Prelude.{◌≡◌, ◌≤◌, ℕ, List, [], ◌∷◌, ◌⊎◌, Option, None, Result, Ok, Err}
+use Rattle.std.specs.Prelude.{◌≡◌, ◌≤◌, ℕ, List, [], ◌∷◌, ◌⊎◌, None, Result, Ok, Err}
 use Rattle.mage_base.specs.Faults.{Rose}
 use Rattle.mage_instr.specs.declared.fault.DriverFault.{DriverFault}
 use Rattle.mage_instr.specs.declared.fault.DriverFault.TheVariants as fault
