@@ -2,4 +2,3 @@ pub mod Pages
 pub mod FileTables
 pub mod Ledgers
 pub mod FailLists
-pub mod Stores
