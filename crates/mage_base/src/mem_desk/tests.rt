@@ -64,59 +64,6 @@ fn store_by<D: Desk>(desk: &mut D, alloc: Global, worker: u16, shard: u16) -> bo
     true
 }
 
-fn say_by<D: Desk>(desk: &mut D, bytes: &[u8]) -> bool {
-    desk.say(bytes).is_ok()
-}
-
-fn warn_by<D: Desk>(desk: &mut D, bytes: &[u8]) -> bool {
-    desk.warn(bytes).is_ok()
-}
-
-// The first of the seven kinds of call that fails, each being called once in this order.
-fn first_failure(desk: &mut MemDesk, alloc: Global) -> &'static str {
-    if fetch_by(desk, alloc, "plan").is_err() {
-        return "fetch";
-    }
-    let taken = take_by(desk, alloc, "plan");
-    if !taken.is_empty() {
-        return taken;
-    }
-    let put = put_by(desk, alloc, "out");
-    if !put.is_empty() {
-        return put;
-    }
-    if !store_by(desk, alloc, 0, 0) {
-        return "store";
-    }
-    if !say_by(desk, b"x") {
-        return "say";
-    }
-    if warn_by(desk, b"y") { "" } else { "warn" }
-}
-
-fn fails_at(rt: &impl Abort, alloc: Global, listed: u64, call: &str) -> Result<(), Memory> {
-    let mut fails = DeskFails::none(alloc);
-    fails.desk.push(listed)?;
-    let mut desk = desk_with(alloc, &fails)?;
-    assert_eq!(rt; first_failure(&mut desk, alloc), call);
-    assert_eq!(rt; first_failure(&mut desk, alloc), "", "after {call}");
-    Ok(())
-}
-
-// The calls are numbered over all kinds together.
-#[test]
-fn fails_where_listed(rt: HostRuntime) -> Result<(), Fail> {
-    let alloc = rt.alloc();
-    fails_at(&rt, alloc, 0, "fetch")?;
-    fails_at(&rt, alloc, 1, "open_in")?;
-    fails_at(&rt, alloc, 2, "open_out")?;
-    fails_at(&rt, alloc, 3, "close_out")?;
-    fails_at(&rt, alloc, 4, "store")?;
-    fails_at(&rt, alloc, 5, "say")?;
-    fails_at(&rt, alloc, 6, "warn")?;
-    Ok(())
-}
-
 // The first call of the source `plan`, the second of the sink `out` and the first of a store are to fail.
 fn failing_objects(alloc: Global) -> Result<DeskFails, Memory> {
     let mut fails = DeskFails::none(alloc);
@@ -155,22 +102,5 @@ fn hands_out_what_fails_where_listed(rt: HostRuntime) -> Result<(), Fail> {
     assert_eq!(rt; fetch_by(&mut desk, alloc, "out"), Ok(2));
     stores(&rt, &mut desk, alloc, 1, 2, 0);
     stores(&rt, &mut desk, alloc, 0, 4, 1);
-    Ok(())
-}
-
-#[test]
-fn fails_for_want_of_a_file_or_of_room(rt: HostRuntime) -> Result<(), Fail> {
-    let alloc = rt.alloc();
-    let mut desk = desk_with(alloc, &DeskFails::none(alloc))?;
-    desk.add("long", b"abcde")?;
-    assert_eq!(rt; fetch_by(&mut desk, alloc, "long"), Err(DeskError::TooLong));
-    assert_eq!(rt; fetch_by(&mut desk, alloc, "Plan"), Err(DeskError::Fault));
-    faults(&rt, &desk, 1);
-    desk.faults = u64::MAX;
-    assert!(rt; say_by(&mut desk, b"abcd") && !say_by(&mut desk, b"e"));
-    assert!(rt; warn_by(&mut desk, b"fg") && !warn_by(&mut desk, b"hij"));
-    assert_eq!(rt; desk.said(), b"abcd".as_slice());
-    assert_eq!(rt; desk.warned(), b"fghi".as_slice());
-    faults(&rt, &desk, u64::MAX);
     Ok(())
 }
