@@ -1,9 +1,9 @@
 -- Half gates keep active labels.
-use Rattle.std.proofs.Common.{◌≡◌, ℕ, Bool, true, false, not, ◌&&◌, IsTrue, List, refl, sym, ap, ap₂, ◌∙◌}
+use Rattle.std.proofs.Common.{◌≡◌, ℕ, Bool, true, false, not, ◌&&◌, List, refl, sym, ap, ap₂, ◌∙◌}
 use mathlib.Core.Bool.{xor as xor_bits}
 use Rattle.mage_label.specs.declared.labels.Label.{Label}
 use Rattle.mage_label.specs.Labels.{IsWhole, blank, hash_of, input_label_of, lsb, offset_of, xor, xor_times}
-use Rattle.mage_label.proofs.LabelLemmas.{IsWhole-blank, IsWhole-digest_label, IsWhole-hash_of, IsWhole-offset_of, IsWhole-xor, lsb-offset_of, lsb-xor, xor_associative, xor_blank, xor_cancels, xor_commutative, xor_inverse}
+use Rattle.mage_label.proofs.LabelLemmas.{IsWhole-blank, IsWhole-digest_label, IsWhole-hash_of, IsWhole-offset_of, IsWhole-xor, lsb-offset_of, lsb-xor, xor_associative, xor_cancels, xor_commutative, xor_inverse}
 use Rattle.mage_halfgates.specs.HalfGates.{IsActive, IsOffset, Tables, and_label, and_zero, constant_zero, decoded_bit, evaluator_half, evaluator_tweak, generator_half, generator_tweak, tables_of}
 
 -- ---- labels of 16 bytes

@@ -10,7 +10,7 @@ use Rattle.mage_linked.specs.declared.emitted.Emitted.{Emitted}
 use Rattle.mage_unroll.specs.declared.state.Variable.{Variable}
 use Rattle.mage_linked.specs.Workers.{below}
 use Rattle.mage_linked.specs.Emission.{count_of}
-use Rattle.mage_unroll.specs.State.{State, emitted, defined}
+use Rattle.mage_unroll.specs.State.{State, defined}
 use Rattle.mage_meaning.specs.declared.known.Wide.{Wide}
 use Rattle.mage_meaning.specs.Given.{Given}
 use Rattle.mage_instr.specs.Computed.{computed}

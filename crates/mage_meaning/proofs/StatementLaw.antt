@@ -1,7 +1,7 @@
 -- The execution of statements keeps the agreement with the direct meaning.
 use Rattle.std.proofs.Common.{◌≡◌, ℕ, zero, suc, ◌+◌, ◌<◌, Bool, true, false, eqb, List, [], ◌∷◌, ◌++◌, map, replicate, ℤ, pos, Option, Some, None, Result, Ok, refl, sym, ap, ◌∙◌, subst}
-use Rattle.std.specs.Prelude.{slice_get, slice_index, unsigned_abs, ◌+ℤ◌, ◌&&◌, int_le, int_lt, set, option_map}
-use Rattle.std.proofs.lemmas.Bool.{eqb-true, and_parts}
+use Rattle.std.specs.Prelude.{slice_get, slice_index, unsigned_abs, ◌+ℤ◌, set}
+use Rattle.std.proofs.lemmas.Bool.{eqb-true}
 use Rattle.mage_instr.specs.declared.op.Op.TheVariants as op
 use Rattle.mage_lex.specs.declared.fault.LangFault.{LangFault}
 use Rattle.mage_lex.specs.declared.token.Token.{Token}
@@ -21,11 +21,11 @@ use Rattle.mage_constants.specs.Constants.{constant_of}
 use Rattle.mage_unroll.specs.Expressions.{variable_of}
 use Rattle.mage_unroll.specs.declared.state.Held.{Held}
 use Rattle.mage_unroll.specs.State as state
-use Rattle.mage_unroll.specs.State.{State, held_scalar, place_with, instr_of, stepped, stepped_by, emitted, is_free, own_place, place_of, width_at, is_as_wide}
+use Rattle.mage_unroll.specs.State.{State, held_scalar, place_with, instr_of, stepped, stepped_by, is_free, own_place, place_of, width_at, is_as_wide}
 use Rattle.mage_unroll.specs.Statements as unroll
 use Rattle.mage_linked.specs.Workers.{below}
 use Rattle.mage_constants.specs.Ranges.{number_below, holds, distance}
-use Rattle.mage_unroll.specs.Statements.{condition, turn, Act, all_acts, in_scope, length_at, named_scalar, named_array, input_of, moved, turns, branch, stmt_layer, executed}
+use Rattle.mage_unroll.specs.Statements.{condition, turn, Act, all_acts, in_scope, length_at, named_scalar, named_array, turns, branch, stmt_layer, executed}
 use Rattle.mage_meaning.specs.declared.known.Known.{Known}
 use Rattle.mage_meaning.specs.declared.known.Known.TheVariants as known
 use Rattle.mage_meaning.specs.declared.known.Wide.{Wide}
@@ -42,7 +42,7 @@ use Rattle.mage_meaning.proofs.ExpressionLaw.{variable_of-Law}
 use Rattle.mage_meaning.proofs.InputLemmas.{length-Agree, input_of-Agree}
 use Rattle.mage_meaning.proofs.MoveLemmas.{moved-Agree}
 use Rattle.mage_meaning.proofs.PlaceLemmas.{StandFor-set, array-Both, item-Held, place_of-Held, width_at-is}
-use Rattle.mage_chains.proofs.Ends.{cond_ok, cond_some, then_ok, same_Ok}
+use Rattle.mage_chains.proofs.Ends.{cond_ok, then_ok, same_Ok}
 use Rattle.mage_constants.proofs.Trees.{or_fault_ok}
 use Rattle.mage_constants.proofs.RangeLemmas.{number_below-is}
 use Rattle.mage_meaning.proofs.Runs.{ran, ran-push, Extends-ran}

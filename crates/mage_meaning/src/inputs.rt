@@ -1,3 +1,4 @@
+// The inputs of a source.
 use std::marker::Model;
 
 /// The input values of both parties: a list for each worker, in program order.

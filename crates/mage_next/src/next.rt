@@ -1,3 +1,4 @@
+// Next uses, from the last step to the first.
 ghost use Rattle.std.specs.Prelude.{◌≡◌, ◌<◌, ◌≤◌, ◌==◌, ℕ, length, drop, nat_eq, unwrap_or, IfOk, OnOk, slice_index};
 ghost use Rattle.std.specs.HashMap.{get};
 ghost use Rattle.mage_instr.specs.Trace.{IsTrace, IsStep};
@@ -31,7 +32,8 @@ pub fn next_uses(alloc: Global, trace: &[Step]) -> Result<Vec<[u32; 4]>, Memory>
 // When the pages of a step are used next, by the map from each page to the next step that has it.
 fn uses_at(seen: &HashMap<u32, u32>, step: Step) -> [u32; 4]
     requires { IsStep step }
-    ensures { (k : ℕ) → k < 4 → slice_index result k ≡ use_of step (λ page. unwrap_or (get nat_eq seen.now page) NEVER) k }
+    ensures { (k : ℕ) → k < 4 → slice_index result k
+        ≡ use_of step (λ page. unwrap_or (get nat_eq seen.now page) NEVER) k }
 {
     let mut uses = [NEVER; 4];
     for k in 0..usize::from(step.count) {
@@ -43,7 +45,8 @@ fn uses_at(seen: &HashMap<u32, u32>, step: Step) -> [u32; 4]
 // The pages of a step are used at t.
 fn note(seen: &mut HashMap<u32, u32>, step: Step, t: u32) -> Result<(), Memory>
     requires { IsStep step }
-    ensures { OnOk result ((q : ℕ) → unwrap_or (get nat_eq seen.new q) NEVER ≡ use_noted step t (λ page. unwrap_or (get nat_eq seen.old page) NEVER) q) }
+    ensures { OnOk result ((q : ℕ) → unwrap_or (get nat_eq seen.new q) NEVER
+        ≡ use_noted step t (λ page. unwrap_or (get nat_eq seen.old page) NEVER) q) }
 {
     for k in 0..usize::from(step.count) {
         seen.insert(step.pages[k], t)?;

@@ -1,21 +1,17 @@
 -- Reading is the grammar.
-use Rattle.std.proofs.Common.{◌≡◌, ◌↔◌, ℕ, List, refl, ap, sym, ◌∙◌}
+use Rattle.std.proofs.Common.{◌≡◌, ℕ, List, refl, ap, sym, ◌∙◌}
 use Rattle.std.specs.Prelude.{Option, Result, Ok, Err}
 use Rattle.mage_lex.specs.declared.token.Token.{Token}
-use Rattle.mage_lex.specs.declared.fault.LangKind.{LangKind}
-use Rattle.mage_lex.specs.declared.fault.LangKind.TheVariants as wrong
 use Rattle.mage_lex.specs.declared.fault.LangFault.{LangFault}
 use Rattle.mage_parser.specs.declared.stop.Stop.{Stop}
-use Rattle.mage_parser.specs.declared.stop.Stop.TheVariants as stops
 use Rattle.mage_tree.specs.declared.tree.Stmt.{Stmt}
 use Rattle.mage_tree.specs.Sources.{MOST_DEPTH}
-use Rattle.mage_tree.specs.FirstFault.{fault_at, IsFirstFault}
 use Rattle.mage_parser.specs.Statements.{source_at}
-use Rattle.mage_parser.specs.Faults.{fault_of, parsed_from, parsed}
+use Rattle.mage_parser.specs.Faults.{parsed_from, parsed}
 use Rattle.mage_parser.specs.Laws.{GrammarSays, ReadingIsTheGrammar}
 use Rattle.mage_parser.proofs.SoundStatements.{source_sound}
 use Rattle.mage_parser.proofs.FullStatements.{source_full}
-use Rattle.mage_parser.proofs.OneFault.{fault_found, same_fault, no_fault, no_memory}
+use Rattle.mage_parser.proofs.OneFault.{fault_found, same_fault, no_fault}
 
 -- what reading gives is what the grammar says
 says : (text : List ℕ) (tokens : List Token) (read : Result (Option Token × List Stmt) Stop) → source_at MOST_DEPTH tokens ≡ read →

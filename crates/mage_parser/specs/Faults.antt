@@ -1,7 +1,6 @@
 -- The faults of reading, with their places.
 use Rattle.std.specs.Prelude.{◌≡◌, ℕ, ◌-◌, List, length, drop, Option, Result, Ok, Err}
 use Rattle.mage_lex.specs.declared.token.Token.{Token}
-use Rattle.mage_lex.specs.declared.fault.LangKind.{LangKind}
 use Rattle.mage_lex.specs.declared.fault.LangKind.TheVariants as wrong
 use Rattle.mage_lex.specs.declared.fault.LangFault.{LangFault}
 use Rattle.mage_lex.specs.declared.fault.LangFault.TheVariants as faults

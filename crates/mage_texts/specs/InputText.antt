@@ -28,7 +28,8 @@ is_number line = nat_le 1 (length line) && (nat_le (length line) most_digits && 
 
 -- the number of a line, where the line is right for a value of this width
 abbrev pub number_of_line : ℕ → List ℕ → Option ℕ
-number_of_line width line = if is_number line && nat_lt (digits_value 10 line) (2 ^ width) then Some (digits_value 10 line) else None
+number_of_line width line =
+    if is_number line && nat_lt (digits_value 10 line) (2 ^ width) then Some (digits_value 10 line) else None
 
 -- a number in front of the others, unless there is none or the others are faulty
 abbrev pub with_first : ℕ → Option ℕ → Result (List ℕ) ℕ → Result (List ℕ) ℕ
@@ -42,7 +43,8 @@ abbrev pub numbers_of : ℕ → List (List ℕ) → List ℕ → Result (List �
 numbers_of first [] [] = Ok []
 numbers_of first [] (width ∷ widths) = Err first
 numbers_of first (line ∷ lines) [] = Err first
-numbers_of first (line ∷ lines) (width ∷ widths) = with_first first (number_of_line width line) (numbers_of (first + 1) lines widths)
+numbers_of first (line ∷ lines) (width ∷ widths) =
+    with_first first (number_of_line width line) (numbers_of (first + 1) lines widths)
 
 -- the numbers cut into one list for each worker, which has as many as the worker has widths
 abbrev pub by_worker : List (List ℕ) → List ℕ → List (List ℕ)
@@ -64,9 +66,13 @@ IsReadOf inputs (Ok numbers) = inputs ≡ Ok (lists_of numbers.items)
 IsReadOf inputs (Err (faults.Line line)) = inputs ≡ Err line
 IsReadOf inputs (Err faults.Memory) = Unit {0}
 
+-- the greatest width of a value, in bits
+abbrev pub most_bits : ℕ
+most_bits = 128
+
 -- the width of an input value, in bits
 abbrev pub IsWidth : ℕ → Type 0
-IsWidth width = (1 ≤ width) × (width ≤ 128)
+IsWidth width = (1 ≤ width) × (width ≤ most_bits)
 
 -- a list of numbers for each list of widths, a number for each width, and each number below 2 to its width
 abbrev pub FitWidths : List (List ℕ) → List (List ℕ) → Type 0

@@ -11,9 +11,12 @@ with_front front (Err line) = Err line
 
 -- the numbers of these widths come first, whatever values come after, and then those of the text that is left
 abbrev pub IsFront : ℕ → List ℕ → List ℕ → List ℕ → ℕ → List ℕ → Type 0
-IsFront first text widths numbers next left = (more : List ℕ) → numbers_of first (lines_of text) (widths ++ more) ≡ with_front numbers (numbers_of next (lines_of left) more)
+IsFront first text widths numbers next left = (more : List ℕ)
+    → numbers_of first (lines_of text) (widths ++ more)
+    ≡ with_front numbers (numbers_of next (lines_of left) more)
 
 -- the fault is want of memory, or the first faulty line, whatever values come after
 abbrev pub IsFaultIn : ℕ → List ℕ → List ℕ → InputFault → Type 0
-IsFaultIn first text widths (faults.Line line) = (more : List ℕ) → numbers_of first (lines_of text) (widths ++ more) ≡ Err line
+IsFaultIn first text widths (faults.Line line) =
+    (more : List ℕ) → numbers_of first (lines_of text) (widths ++ more) ≡ Err line
 IsFaultIn first text widths faults.Memory = Unit {0}

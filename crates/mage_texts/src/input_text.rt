@@ -38,7 +38,8 @@ pub fn read_inputs(
 ) -> Result<Vec<Vec<u128>>, InputFault>
     requires { All (λ own. All IsWidth own.items) widths.now }
     ensures numbers { IsReadOf (inputs_of text.now (lists_of widths.now)) result }
-    ensures fit { IfOk result (λ numbers. FitWidths (lists_of widths.now) (lists_of numbers.items)) }
+    ensures fit { IfOk result (λ numbers.
+        FitWidths (lists_of widths.now) (lists_of numbers.items)) }
 {
     let mut numbers = Vec::new(alloc);
     let mut left = Lines {
@@ -98,7 +99,8 @@ fn value_of(digits: &[u8]) -> Option<u128>
 // The number with one decimal digit more, where it is below 2 to 128.
 fn with_digit(value: u128, digit: u8) -> Option<u128>
     requires { IsTrue (is_ascii_digit digit) }
-    ensures { SomeIff result (value * 10 + digit_value digit < 2 ^ 128) (value * 10 + digit_value digit) }
+    ensures { SomeIff result (value * 10 + digit_value digit < 2 ^ 128)
+        (value * 10 + digit_value digit) }
 {
     value.checked_mul(10)?.checked_add(u128::from(digit - b'0'))
 }
@@ -139,8 +141,10 @@ fn next_number<'a>(lines: Lines<'a>, width: u8) -> Result<(u128, Lines<'a>), Inp
     requires width { IsWidth width }
     requires countable { lines.number + length lines.rest.now < 2 ^ 64 }
     ensures number { IfOk result (λ next.
-        IsFront lines.entry.number lines.entry.rest.now (width ∷ []) (next.0 ∷ []) next.1.number next.1.rest.now) }
-    ensures fault { IfErr result (IsFaultIn lines.entry.number lines.entry.rest.now (width ∷ [])) }
+        IsFront lines.entry.number lines.entry.rest.now (width ∷ []) (next.0 ∷ []) next.1.number
+        next.1.rest.now) }
+    ensures fault { IfErr result
+        (IsFaultIn lines.entry.number lines.entry.rest.now (width ∷ [])) }
     ensures countable { IfOk result (λ next. next.1.number + length next.1.rest.now < 2 ^ 64) }
 {
     if lines.rest.is_empty() {
@@ -168,7 +172,8 @@ fn read_worker<'a>(
     requires widths { All IsWidth widths.now }
     requires countable { lines.number + length lines.rest.now < 2 ^ 64 }
     ensures numbers { IfOk result (λ next.
-        IsFront lines.entry.number lines.entry.rest.now widths.now next.0.items next.1.number next.1.rest.now) }
+        IsFront lines.entry.number lines.entry.rest.now widths.now next.0.items next.1.number
+        next.1.rest.now) }
     ensures fault { IfErr result (IsFaultIn lines.entry.number lines.entry.rest.now widths.now) }
     ensures count { IfOk result (λ next. length next.0.items ≡ length widths.now) }
     ensures countable { IfOk result (λ next. next.1.number + length next.1.rest.now < 2 ^ 64) }

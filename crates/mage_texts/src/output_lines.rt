@@ -20,7 +20,8 @@ pub fn output_text(alloc: Global, outputs: &[Vec<u128>]) -> Result<Vec<u8>, Memo
 
 // Adds the lines of one worker's outputs.
 fn add_outputs(text: &mut String, outputs: &[u128]) -> Result<(), Memory>
-    ensures { OnOk result (string_bytes text.new ≡ string_bytes text.old ++ lines_of_outputs outputs.now) }
+    ensures { OnOk result
+        (string_bytes text.new ≡ string_bytes text.old ++ lines_of_outputs outputs.now) }
 {
     for output in outputs {
         writeln!(text, "{output}")?;

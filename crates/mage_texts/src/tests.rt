@@ -1,3 +1,4 @@
+// Input texts that are read, and their first faulty lines; texts of outputs.
 ghost use Rattle.std.specs.Prelude.{All, IfOk};
 ghost use Rattle.mage_texts.specs.InputText.{IsWidth};
 

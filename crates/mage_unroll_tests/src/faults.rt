@@ -1,3 +1,4 @@
+// The first fault of a source, of each kind, with its place.
 use crate::texts::{first_other, unrolled};
 use mage_lex::{LangFault, LangKind};
 

@@ -1,3 +1,4 @@
+// The steps and the instructions that a source may have.
 use crate::texts::{count, is_refused};
 use mage_lex::LangKind::{TooLong, UnknownName, WidthDiffers};
 

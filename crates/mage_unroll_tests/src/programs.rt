@@ -1,3 +1,4 @@
+// The programs of instructions that sources unroll to.
 use crate::texts::unrolled;
 use mage_instr::{Instr, Op, Program};
 use std::alloc::Global;

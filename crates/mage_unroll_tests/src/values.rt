@@ -1,3 +1,4 @@
+// What sources mean on inputs.
 use crate::texts::read;
 use mage_base::Memory;
 use mage_lex::LangFault;

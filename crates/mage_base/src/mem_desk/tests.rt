@@ -104,3 +104,24 @@ fn hands_out_what_fails_where_listed(rt: HostRuntime) -> Result<(), Fail> {
     stores(&rt, &mut desk, alloc, 0, 4, 1);
     Ok(())
 }
+
+fn set_faults(desk: &mut MemDesk, faults: u64) {
+    desk.faults = faults;
+}
+
+// Two faults more, where the count is one below its greatest value.
+fn fails_twice(rt: &impl Abort, desk: &mut MemDesk, alloc: Global) {
+    let missing = Err(DeskError::Fault);
+    assert_eq!(rt; fetch_by(desk, alloc, "missing"), missing);
+    faults(rt, desk, u64::MAX);
+    assert_eq!(rt; fetch_by(desk, alloc, "missing"), missing);
+    faults(rt, desk, u64::MAX);
+}
+
+#[test]
+fn faults_stay_at_their_greatest_value(rt: HostRuntime) -> Result<(), Fail> {
+    let mut desk = desk_with(rt.alloc(), &DeskFails::none(rt.alloc()))?;
+    set_faults(&mut desk, u64::MAX - 1);
+    fails_twice(&rt, &mut desk, rt.alloc());
+    Ok(())
+}

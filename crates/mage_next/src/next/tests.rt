@@ -1,3 +1,4 @@
+// Next uses of a trace that was worked out by hand.
 use super::*;
 use std::test::Fail;
 

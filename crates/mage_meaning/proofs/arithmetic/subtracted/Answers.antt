@@ -1,4 +1,4 @@
-use Rattle.std.proofs.Common.{◌∙◌, ◌^◌, ◌-◌, ap, sym, ℕ, arith}
+use Rattle.std.proofs.Common.{◌∙◌, ◌^◌, ◌-◌, ap, ℕ, arith}
 use Rattle.std.proofs.lemmas.Nat.{pow_pos}
 use Rattle.mage_meaning.proofs.Wrapping.{less_greater, less_lesser}
 use Rattle.mage_meaning.proofs.arithmetic.subtracted.Goals as goal
