@@ -6,6 +6,9 @@ use crate::reading::read_page;
 use mage_base::{Failed, Store, StoreCounts};
 use std::io::{self, Read, Seek, SeekFrom, Write};
 
+#[cfg(test)]
+mod tests;
+
 /// Pages in a file: page p is at byte p times the page length. It tells nothing of what they hold.
 #[derive(Drop)]
 pub struct FileStore<F: Read + Write + Seek + Drop> {
@@ -33,7 +36,9 @@ impl<F: Read + Write + Seek + Drop> FileStore<F> {
     }
 
     /// Closes the file, and answers its name.
-    pub fn close(self) -> String {
+    pub fn close(self) -> String
+        ensures { result ≡ self.name }
+    {
         let FileStore {
             file,
             name,

@@ -6,8 +6,12 @@
 mod file_sink;
 mod file_source;
 mod file_store;
+#[cfg(test)]
+mod made_up;
 mod reading;
 mod real_desk;
+#[cfg(test)]
+mod tests;
 mod words;
 
 pub use file_sink::FileSink;

@@ -2,6 +2,7 @@
 ghost use Rattle.std.specs.Prelude.{◌≡◌, ◌≢◌, ◌≤◌, length, IfOk};
 ghost use Rattle.mage_base.specs.Desk.{FaultCounted, IsNotTooLong};
 ghost use Rattle.mage_base.specs.Faults.{Counted, count_after};
+ghost use Rattle.mage_base.specs.Ledger.{empty_ledger};
 ghost use Rattle.mage_outside.specs.Untold.{untold_source, untold_sink, untold_store, untold_desk};
 
 use crate::reading::read_all;
@@ -11,6 +12,9 @@ use std::alloc::Global;
 use std::fs::{self, OpenOptions};
 use std::io::{self, ErrorKind, Write};
 use std::rt::Files;
+
+#[cfg(test)]
+mod tests;
 
 /// A desk over files, standard output and standard error. It tells its counts and which stores it handed out, and nothing
 /// of what files hold. It ignores the room that a sink is asked with, and the number of a store's pages.
@@ -26,8 +30,11 @@ pub struct RealDesk<'a, R: Files + Print, E: Print + Drop> {
 }
 
 impl<'a, R: Files + Print, E: Print + Drop> RealDesk<'a, R, E> {
-    /// A desk that says to the runtime's standard output and warns to `errors`.
-    pub fn new(rt: &'a R, alloc: Global, errors: E) -> Self {
+    /// A desk that says to the runtime's standard output and warns to `errors`. It has counted no fault, and handed out no
+    /// store.
+    pub fn new(rt: &'a R, alloc: Global, errors: E) -> Self
+        ensures { untold_desk result.faults result.ledger ≡ untold_desk 0 empty_ledger }
+    {
         RealDesk {
             rt,
             errors,

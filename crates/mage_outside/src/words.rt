@@ -3,6 +3,9 @@ use std::env::{self, Env};
 use std::io::ErrorKind;
 use thiserror::Error;
 
+#[cfg(test)]
+mod tests;
+
 /// Why there are no words.
 #[derive(Clone, Copy, Debug, PartialEq, Eq, Error)]
 pub enum NoWords {
