@@ -6,7 +6,7 @@ use Rattle.std.specs.BTreeSet.{BTreeSet, contains}
 use Rattle.std.proofs.lemmas.Bool.{cases_eq, eq-eqb, ne_eqb, and_left, and_right}
 use Rattle.std.specs.BTreeMap.{is_at}
 use Rattle.std.proofs.lemmas.Grind.{common_steps}
-use Rattle.mage_place.specs.declared.pool.Page.{Page}
+use Rattle.mage_place.specs.declared.page.Page.{Page}
 use Rattle.mage_place.specs.Pages.{IsPage, is_taken_on, is_used, has_room}
 use Rattle.mage_place.specs.Pools.{is_taken, class_at, is_open_page, is_open, is_listed, ArePages}
 use Rattle.mage_place.proofs.At.{slice_get-set_same, slice_get-set_other, slice_get-push_same, slice_get-push_other}

@@ -5,7 +5,7 @@ use Rattle.std.proofs.lemmas.Bool.{eq-eqb, ne_eqb}
 use Rattle.std.proofs.lemmas.List.{take_more}
 use Rattle.std.proofs.lemmas.List.Folds.{list_any-append}
 use Rattle.mage_instr.specs.declared.instr.Place.{Place}
-use Rattle.mage_place.specs.declared.pool.Page.{Page}
+use Rattle.mage_place.specs.declared.page.Page.{Page}
 use Rattle.mage_place.specs.Places.{place_of}
 use Rattle.mage_place.specs.Pools.{is_taken, class_at, is_place, IsOn, Frees, ends_at, FreesEnded}
 

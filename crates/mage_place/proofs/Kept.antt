@@ -4,7 +4,7 @@ use Rattle.std.specs.List.{list_any}
 use Rattle.std.proofs.lemmas.Bool.{eq-eqb, eqb-true, and_parts, and_from, or_cases, or_left, or_right, not-true, false≢true, false_from_ne_true}
 use Rattle.std.proofs.Math.Nat.{eq_of_mul-eq-mul_right}
 use Rattle.mage_instr.specs.declared.instr.Place.{Place}
-use Rattle.mage_place.specs.declared.pool.Page.{Page}
+use Rattle.mage_place.specs.declared.page.Page.{Page}
 use Rattle.mage_place.specs.Places.{place_of}
 use Rattle.mage_place.specs.Pools.{is_taken, class_at, is_place, ends_at, TakesPlace, FreesEnded}
 

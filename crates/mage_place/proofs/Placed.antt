@@ -11,7 +11,7 @@ use Rattle.mage_instr.specs.declared.instr.Place.{Place}
 use Rattle.mage_instr.specs.Opcodes.{has_result}
 use Rattle.mage_instr.specs.Sound.{IsSound, arg_of}
 use Rattle.std.proofs.Math.Pow.{pow_mono}
-use Rattle.mage_place.specs.declared.pool.Page.{Page}
+use Rattle.mage_place.specs.declared.page.Page.{Page}
 use Rattle.mage_place.specs.declared.pool.Pool.{Pool}
 use Rattle.mage_place.specs.Classes.{class_of_width}
 use Rattle.mage_place.specs.Live.{IsLive, Takes, HasClass, IsLastUse, class_of_result, args_of, values_touched_by}

@@ -2,7 +2,7 @@
 use Rattle.std.specs.Prelude.{◌≡◌, ◌≤◌, ◌<◌, ◌/◌, ◌&&◌, ◌||◌, ℕ, Bool, true, not, nat_lt}
 use Rattle.std.specs.Ordering.{nat_cmp}
 use Rattle.std.specs.BTreeSet.{contains, btree_set_len, IsOrdered}
-use Rattle.mage_place.specs.declared.pool.Page.{Page}
+use Rattle.mage_place.specs.declared.page.Page.{Page}
 
 -- whether place k is taken
 abbrev pub is_taken_on : Page → ℕ → Bool

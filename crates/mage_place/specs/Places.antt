@@ -59,4 +59,5 @@ module _ (instrs : List Instr) (page : ℕ) (before : List Place) where
 -- each instruction has its place, after those before it
 pub record ArePlaces (instrs : List Instr) (page : ℕ) (places : List Place) : Type 0 where
   pub count : length places ≡ length instrs
-  pub each : (t : ℕ) → IfSome (slice_get instrs t) (λ i. IsPlaceOf instrs page (take t places) i (place_of places t))
+  pub each : (t : ℕ) → IfSome (slice_get instrs t)
+      (λ i. IsPlaceOf instrs page (take t places) i (place_of places t))

@@ -39,7 +39,8 @@ module _ (instrs : List Instr) (page : ℕ) (before : List Place) where
 
   -- whether page q has the class c, a live value and a free place
   abbrev pub is_open : (c q : ℕ) → Bool
-  is_open c q = list_any (λ v. lives_on q v && has_class instrs v c) (below (length before)) && list_any (is_free q c) (below (page / c))
+  is_open c q = list_any (λ v. lives_on q v && has_class instrs v c) (below (length before))
+      && list_any (is_free q c) (below (page / c))
 
   -- the lowest free place of page q, whose class is c; an open page has one
   abbrev pub lowest_place : (c q : ℕ) → Place
@@ -47,7 +48,8 @@ module _ (instrs : List Instr) (page : ℕ) (before : List Place) where
 
   -- the place of a value of the class c: on the open page with the highest number, or else the first of a new page
   abbrev pub place_in : (c : ℕ) → Place
-  place_in c = option_map_or (lowest_place c) (greatest_below (is_open c) (next_page before)) (record { page = next_page before; offset = 0 })
+  place_in c = option_map_or (lowest_place c) (greatest_below (is_open c) (next_page before))
+      (record { page = next_page before; offset = 0 })
 
   -- the place of the next instruction
   abbrev pub next_place : Instr → Place
@@ -59,7 +61,8 @@ places_of instrs page = fold (λ before i. before ++ next_place instrs page befo
 
 -- the pages that instruction t needs, ascending: those on which a value stands that it touches
 abbrev pub needed_pages : List Place → (t : ℕ) → Instr → List ℕ
-needed_pages places t i = filter (λ q. list_any (λ v. (place_of places v).page == q) (values_touched_by i t)) (below (next_page places))
+needed_pages places t i =
+    filter (λ q. list_any (λ v. (place_of places v).page == q) (values_touched_by i t)) (below (next_page places))
 
 -- the step of instruction t: the pages that it needs, and 0 behind them, four in all
 abbrev pub step_for : List Place → (t : ℕ) → Instr → Step

@@ -5,7 +5,7 @@ use Rattle.std.specs.Option.{option_map_or, ForSome}
 use Rattle.std.specs.Ordering.{nat_cmp}
 use Rattle.std.specs.BTreeSet.{BTreeSet, contains}
 use Rattle.mage_instr.specs.declared.instr.Place.{Place}
-use Rattle.mage_place.specs.declared.pool.Page.{Page}
+use Rattle.mage_place.specs.declared.page.Page.{Page}
 use Rattle.mage_place.specs.declared.pool.Pool.{Pool}
 use Rattle.mage_place.specs.Places.{place_of}
 use Rattle.mage_place.specs.Pages.{is_taken_on, is_used, has_room, IsPage}
@@ -37,13 +37,15 @@ ArePages wires pages = (q : ℕ) → ForSome (slice_get pages q) (IsPage wires)
 pub record IsPool (pool : Pool) : Type 0 where
   pub classes : length pool.open.items ≡ 129
   pub pages : ArePages pool.wires pool.pages.items
-  pub open_pages : (c q : ℕ) → c < 129 → is_listed pool.open.items c q ≡ is_open pool.wires pool.pages.items c q
+  pub open_pages : (c q : ℕ) → c < 129
+      → is_listed pool.open.items c q ≡ is_open pool.wires pool.pages.items c q
 
 -- the same, but that page r may be listed wrong
 pub record IsPoolBut (pool : Pool) (r : ℕ) : Type 0 where
   pub classes : length pool.open.items ≡ 129
   pub pages : ArePages pool.wires pool.pages.items
-  pub open_pages : (c q : ℕ) → c < 129 → ((c == class_at pool.pages.items r) && (q == r)) ≡ false → is_listed pool.open.items c q ≡ is_open pool.wires pool.pages.items c q
+  pub open_pages : (c q : ℕ) → c < 129 → ((c == class_at pool.pages.items r) && (q == r)) ≡ false
+      → is_listed pool.open.items c q ≡ is_open pool.wires pool.pages.items c q
 
 -- place k of the page r, whose class is c, is taken in the new pages; all else is as in the old ones
 pub record TakesPlace (old new : List Page) (wires c r k : ℕ) : Type 0 where
@@ -69,11 +71,14 @@ pub record IsAdded (old new : List Page) (wires c r k : ℕ) : Type 0 where
 
 -- the lowest free place of page r, whose class is c
 abbrev pub IsOfPage : (old new : List Page) → (wires c r : ℕ) → Place → Type 0
-IsOfPage old new wires c r place = (k : ℕ) × (place.page ≡ r) × (place.offset ≡ k * c) × (length new ≡ length old) × TakesPlace old new wires c r k × (is_taken old r k ≡ false) × ((j : ℕ) → j < k → is_taken old r j ≡ true)
+IsOfPage old new wires c r place = (k : ℕ) × (place.page ≡ r) × (place.offset ≡ k * c)
+    × (length new ≡ length old) × TakesPlace old new wires c r k × (is_taken old r k ≡ false)
+    × ((j : ℕ) → j < k → is_taken old r j ≡ true)
 
 -- a value of the class c gets this place
 abbrev pub Gives : (old new : List Page) → (wires c : ℕ) → Place → Type 0
-Gives old new wires c place = (k : ℕ) × (place.offset ≡ k * c) × TakesPlace old new wires c place.page k × (IsReused old new wires c place.page k ⊎ IsAdded old new wires c place.page k)
+Gives old new wires c place = (k : ℕ) × (place.offset ≡ k * c) × TakesPlace old new wires c place.page k
+    × (IsReused old new wires c place.page k ⊎ IsAdded old new wires c place.page k)
 
 -- whether this is place j of page q
 abbrev pub is_place : List Page → Place → (q j : ℕ) → Bool
@@ -94,7 +99,9 @@ abbrev pub ends_at : List Page → List Place → (last : List ℕ) → (t q j v
 ends_at pages places last t q j v = (slice_index last v == t) && is_place pages (place_of places v) q j
 
 -- the places of those of the values that end at instruction t are free in the new pages; all else is as in the old ones
-pub record FreesEnded (old new : List Page) (places : List Place) (last : List ℕ) (t : ℕ) (values : List ℕ) : Type 0 where
+pub record FreesEnded (old new : List Page) (places : List Place) (last : List ℕ) (t : ℕ)
+    (values : List ℕ) : Type 0 where
   pub count : length new ≡ length old
   pub classes : (q : ℕ) → class_at new q ≡ class_at old q
-  pub taken_places : (q j : ℕ) → is_taken new q j ≡ (is_taken old q j && not (list_any (ends_at old places last t q j) values))
+  pub taken_places : (q j : ℕ) → is_taken new q j
+      ≡ (is_taken old q j && not (list_any (ends_at old places last t q j) values))

@@ -13,7 +13,8 @@ is_too_wide page i = has_result i.op && nat_lt page (class_of_result i)
 -- the first such instruction, where they are numbered from t
 abbrev pub too_wide_from : (t page : ℕ) → List Instr → Option Tight
 too_wide_from t page [] = None
-too_wide_from t page (i ∷ is) = if is_too_wide page i then Some (tight.Page t (class_of_result i)) else too_wide_from (t + 1) page is
+too_wide_from t page (i ∷ is) =
+    if is_too_wide page i then Some (tight.Page t (class_of_result i)) else too_wide_from (t + 1) page is
 
 -- the first of some instructions whose value doesn't fit a page, if there is one
 abbrev pub page_tight : (page : ℕ) → List Instr → Option Tight

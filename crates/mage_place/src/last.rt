@@ -1,3 +1,4 @@
+// The last use of each value.
 ghost use Rattle.std.specs.Prelude.{◌≡◌, ◌<◌, ℕ, length, nat_eq, slice_index, if◌then◌else◌, IfOk};
 ghost use Rattle.std.specs.List.{list_any};
 ghost use Rattle.mage_instr.specs.Opcodes.{arity_of};
@@ -12,7 +13,8 @@ use std::alloc::Global;
 pub fn last_uses(alloc: Global, instrs: &[Instr]) -> Result<Vec<u32>, Memory>
     requires { IsSound instrs.now }
     ensures count { IfOk result (λ last. length last.items ≡ length instrs.now) }
-    ensures last { IfOk result (λ last. (v : ℕ) → v < length instrs.now → IsLastUse instrs.now (length instrs.now) v (slice_index last.items v)) }
+    ensures last { IfOk result (λ last. (v : ℕ) → v < length instrs.now
+        → IsLastUse instrs.now (length instrs.now) v (slice_index last.items v)) }
 {
     let mut last = Vec::with_capacity(alloc, instrs.len())?;
     for (t, instr) in instrs.iter().enumerate() {
@@ -26,7 +28,8 @@ pub fn last_uses(alloc: Global, instrs: &[Instr]) -> Result<Vec<u32>, Memory>
 fn note(last: &mut [u32], instr: Instr, t: u32)
     requires { (k : ℕ) → k < arity_of instr.op → arg_of instr k < length last.old }
     ensures count { length last.new ≡ length last.old }
-    ensures values { (v : ℕ) → slice_index last.new v ≡ (if list_any (nat_eq v) (args_of instr) then t else slice_index last.old v) }
+    ensures values { (v : ℕ) → slice_index last.new v
+        ≡ (if list_any (nat_eq v) (args_of instr) then t else slice_index last.old v) }
 {
     for k in 0..usize::from(arity(instr.op)) {
         last[instr.args[k] as usize] = t;

@@ -9,7 +9,8 @@ ghost use Rattle.mage_place.specs.Placing.{places_of, trace_of};
 
 /// A list of instructions and a page size determine the places.
 pub fn places_are_determined()
-    ensures { (instrs : List Instr) (page : ℕ) (xs ys : List Place) → ArePlaces instrs page xs → ArePlaces instrs page ys → xs ≡ ys }
+    ensures { (instrs : List Instr) (page : ℕ) (xs ys : List Place)
+        → ArePlaces instrs page xs → ArePlaces instrs page ys → xs ≡ ys }
 {}
 
 /// The places that `places_of` computes are those of the rule, whatever the instructions and the page size.
@@ -20,5 +21,6 @@ pub fn places_are_computed()
 /// The steps that `trace_of` computes are those of the instructions, where the list can run and each instruction has a
 /// place.
 pub fn steps_are_computed()
-    ensures { (instrs : List Instr) (places : List Place) → IsSound instrs → length places ≡ length instrs → AreSteps instrs places (trace_of instrs places) }
+    ensures { (instrs : List Instr) (places : List Place) → IsSound instrs
+        → length places ≡ length instrs → AreSteps instrs places (trace_of instrs places) }
 {}

@@ -7,7 +7,6 @@ mod laws;
 mod page;
 mod placing;
 mod pool;
-mod pools;
 mod steps;
 mod too_wide;
 mod touched;

@@ -2,8 +2,16 @@
 ghost use Rattle.std.specs.Prelude.{◌≡◌, ◌<◌, ◌≤◌, ◌==◌, ◌||◌, ◌&&◌, ◌/◌, ℕ, true, false, not, nat_lt, OnOk};
 ghost use Rattle.mage_place.specs.Pages.{IsPage, is_taken_on, is_used, has_room};
 
-use crate::pool::Page;
 use mage_base::Memory;
+use std::collections::BTreeSet;
+
+/// A page: the places from `next` on were never taken, and those in `freed` are free again.
+#[derive(Drop)]
+pub struct Page {
+    pub class: u8,
+    pub next: u32,
+    pub freed: BTreeSet<u32>,
+}
 
 // Takes the lowest free place.
 pub fn take_lowest(page: &mut Page, wires: u32) -> u32
@@ -13,7 +21,8 @@ pub fn take_lowest(page: &mut Page, wires: u32) -> u32
     ensures within { result < wires / page.old.class }
     ensures free { is_taken_on page.old result ≡ false }
     ensures lowest { (k : ℕ) → k < result → is_taken_on page.old k ≡ true }
-    ensures taken { (k : ℕ) → is_taken_on page.new k ≡ (is_taken_on page.old k || (k == result)) }
+    ensures taken { (k : ℕ) → is_taken_on page.new k
+        ≡ (is_taken_on page.old k || (k == result)) }
     ensures class { page.new.class ≡ page.old.class }
 {
     match page.freed.pop_first() {
@@ -30,7 +39,8 @@ pub fn take_lowest(page: &mut Page, wires: u32) -> u32
 pub fn free_place(page: &mut Page, wires: u32, place: u32) -> Result<(), Memory>
     requires { IsPage wires page.old }
     ensures ok { OnOk result (IsPage wires page.new) }
-    ensures taken { OnOk result ((k : ℕ) → is_taken_on page.new k ≡ (is_taken_on page.old k && not (k == place))) }
+    ensures taken { OnOk result ((k : ℕ) → is_taken_on page.new k
+        ≡ (is_taken_on page.old k && not (k == place))) }
     ensures class { OnOk result (page.new.class ≡ page.old.class) }
 {
     if place < page.next {

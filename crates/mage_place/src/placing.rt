@@ -13,8 +13,7 @@ ghost use Rattle.mage_place.specs.Pools.{IsPool, IsOn, Gives, FreesEnded};
 
 use crate::class_of;
 use crate::last::last_uses;
-use crate::pool::Pool;
-use crate::pools::{free, no_pages, take};
+use crate::pool::{Pool, free, no_pages, take};
 use crate::steps::trace_of;
 use crate::touched::touched_values;
 use mage_base::Memory;
@@ -41,7 +40,8 @@ pub fn place(alloc: Global, instrs: &[Instr], page: u32) -> Result<(Vec<Place>, 
     ensures steps { IfOk result (λ placed. AreSteps instrs.now placed.0.items placed.1.items) }
     ensures trace { IfOk result (λ placed. IsTrace placed.1.items) }
     ensures placed { IfOk result (λ placed. placed.0.items ≡ places_of instrs.now page) }
-    ensures traced { IfOk result (λ placed. placed.1.items ≡ trace_of instrs.now (places_of instrs.now page)) }
+    ensures traced { IfOk result (λ placed.
+        placed.1.items ≡ trace_of instrs.now (places_of instrs.now page)) }
     ensures few { IfOk result (λ placed. next_page placed.0.items ≤ length instrs.now) }
 {
     let places = places_of(alloc, instrs, page)?;
@@ -78,7 +78,8 @@ fn place_result(pool: &mut Pool, alloc: Global, instr: Instr) -> Result<Place, M
     ensures pool { OnOk result (IsPool pool.new) }
     ensures wires { OnOk result (pool.new.wires ≡ pool.old.wires) }
     ensures given { IfOk result (λ place. MatchBool (has_result instr.op)
-        (Gives pool.old.pages.items pool.new.pages.items pool.old.wires (class_of_result instr) place)
+        (Gives pool.old.pages.items pool.new.pages.items pool.old.wires (class_of_result instr)
+        place)
         ((pool.new ≡ pool.old) × (place ≡ nowhere))) }
 {
     match result_width(instr.op, instr.width) {
@@ -96,10 +97,12 @@ fn free_ended(
     t: u32,
 ) -> Result<(), Memory>
     requires pool { IsPool pool.old }
-    requires values { (v : ℕ) → Contains (values_touched_by instr t) v → (v < length places.now) × (v < length last.now) × IsOn pool.old.pages.items (place_of places.now v) }
+    requires values { (v : ℕ) → Contains (values_touched_by instr t) v → (v < length places.now)
+        × (v < length last.now) × IsOn pool.old.pages.items (place_of places.now v) }
     ensures pool { OnOk result (IsPool pool.new) }
     ensures wires { OnOk result (pool.new.wires ≡ pool.old.wires) }
-    ensures freed { OnOk result (FreesEnded pool.old.pages.items pool.new.pages.items places.now last.now t (values_touched_by instr t)) }
+    ensures freed { OnOk result (FreesEnded pool.old.pages.items pool.new.pages.items places.now
+        last.now t (values_touched_by instr t)) }
 {
     let touched = touched_values(instr, t);
     for k in 0..usize::from(touched.count) {

@@ -51,7 +51,8 @@ fn with_page(step: Step, page: u32) -> Step
     ensures padded { IsPadded result }
     ensures count { result.count ≤ step.count + 1 }
     ensures four { length result.pages ≡ 4 }
-    ensures pages { (q : ℕ) → Contains (pages_of result) q ↔ (Contains (pages_of step) q ⊎ (q ≡ page)) }
+    ensures pages { (q : ℕ) → Contains (pages_of result) q
+        ↔ (Contains (pages_of step) q ⊎ (q ≡ page)) }
 {
     let at = below(step, page);
     if at < usize::from(step.count) && step.pages[at] == page {
@@ -68,7 +69,8 @@ fn below(step: Step, page: u32) -> usize
     requires { IsStep step }
     ensures within { result ≤ step.count }
     ensures below { (k : ℕ) → k < result → slice_index step.pages k < page }
-    ensures above { (k : ℕ) → result ≤ k → k < step.count → page ≤ slice_index step.pages k }
+    ensures above { (k : ℕ) → result ≤ k → k < step.count
+        → page ≤ slice_index step.pages k }
 {
     for k in 0..usize::from(step.count) {
         if page <= step.pages[k] {
@@ -84,8 +86,10 @@ fn inserted(step: Step, at: usize, page: u32) -> [u32; 4]
     requires at { at ≤ step.count }
     ensures before { (k : ℕ) → k < at → slice_index result k ≡ slice_index step.pages k }
     ensures here { slice_index result at ≡ page }
-    ensures behind { (k : ℕ) → at ≤ k → k < step.count → slice_index result (k + 1) ≡ slice_index step.pages k }
-    ensures rest { (k : ℕ) → step.count < k → k < 4 → slice_index result k ≡ slice_index step.pages k }
+    ensures behind { (k : ℕ) → at ≤ k → k < step.count
+        → slice_index result (k + 1) ≡ slice_index step.pages k }
+    ensures rest { (k : ℕ) → step.count < k → k < 4
+        → slice_index result k ≡ slice_index step.pages k }
 {
     let mut pages = step.pages;
     for k in (at..usize::from(step.count)).rev() {

@@ -1,3 +1,4 @@
+// The values that an instruction touches.
 ghost use Rattle.std.specs.Prelude.{◌≡◌, ◌≤◌, take};
 ghost use Rattle.mage_place.specs.Live.{values_touched_by};
 

@@ -1,3 +1,4 @@
+// Places and traces of small programs, by hand from the rule of placement.
 use super::*;
 use crate::page_tight;
 use mage_instr::{Op, Tight};

@@ -1,10 +1,10 @@
 use Rattle.std.proofs.Common.{◌≡◌, length, arith, refl, ◌∙◌}
 use Rattle.std.proofs.lemmas.Nat.{le-div}
-use Rattle.mage_place.specs.declared.pool.Page.{Page}
+use Rattle.mage_place.specs.declared.page.Page.{Page}
 use Rattle.mage_place.proofs.Changed.{Changed, Changed-push, ArePages-changed, open_pages-changed}
 use Rattle.mage_place.proofs.Given.{IsPage-fresh, is_taken_on-fresh, is_open-past, is_taken-past, TakesPlace-changed}
-use Rattle.mage_place.proofs.pools.add.Goals as goal
-use Rattle.mage_place.proofs.pools.add.Goals.{In_ok-push}
+use Rattle.mage_place.proofs.pool.add.Goals as goal
+use Rattle.mage_place.proofs.pool.add.Goals.{In_ok-push}
 
 fresh : In_ok-push → Page
 fresh c = record { class = c.args.class; next = 1; freed = c.new.result }

@@ -7,7 +7,7 @@ use Rattle.std.specs.BTreeSet.{BTreeSet, contains}
 use Rattle.std.proofs.lemmas.Bool.{false≢true, cases_lt}
 use Rattle.std.proofs.lemmas.List.{nil_from_length}
 use Rattle.std.proofs.lemmas.Option.{slice_get_read}
-use Rattle.mage_place.proofs.pools.last_open.Goals as goal
+use Rattle.mage_place.proofs.pool.last_open.Goals as goal
 
 IfNone-from : {X : Type 0} {P : Type 0} (o : Option X) → (o ≡ None → P) → IfNone o P
 IfNone-from None h = h refl

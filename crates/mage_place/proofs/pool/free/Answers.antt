@@ -6,8 +6,8 @@ use Rattle.mage_place.specs.Pages.{IsPage}
 use Rattle.mage_place.specs.Pools.{class_at}
 use Rattle.mage_place.proofs.Changed.{Changed-set, ArePages-changed, open_pages-changed}
 use Rattle.mage_place.proofs.Given.{class_at-at, closed-by_class, is_taken-at, Frees-changed}
-use Rattle.mage_place.proofs.pools.free.Goals as goal
-use Rattle.mage_place.proofs.pools.free.Goals.{After-index_mut-page}
+use Rattle.mage_place.proofs.pool.free.Goals as goal
+use Rattle.mage_place.proofs.pool.free.Goals.{After-index_mut-page}
 
 page_is : (c : After-index_mut-page) → slice_get c.args.pool.now.pages.items c.args.place.page ≡ Some c.index_mut-page.result.now
 page_is c = slice_get_read c.args.pool.now.pages.items (length c.args.pool.now.pages.items) c.args.place.page c.index_mut-page.result.now refl c.requires.place.0 c.index_mut-page.ensures.value

@@ -3,8 +3,8 @@ use Rattle.std.proofs.lemmas.List.{length-set}
 use Rattle.std.proofs.lemmas.Option.{slice_get_read}
 use Rattle.mage_place.proofs.Changed.{Changed-set, ArePages-changed, open_pages-changed}
 use Rattle.mage_place.proofs.Given.{class_at-at, class-of_open, closed-by_class, is_taken-at, is_open-within, place_below, TakesPlace-changed}
-use Rattle.mage_place.proofs.pools.reuse.Goals as goal
-use Rattle.mage_place.proofs.pools.reuse.Goals.{After-take_lowest-number}
+use Rattle.mage_place.proofs.pool.reuse.Goals as goal
+use Rattle.mage_place.proofs.pool.reuse.Goals.{After-take_lowest-number}
 
 within : (c : After-take_lowest-number) → c.args.page < length c.args.pool.now.pages.items
 within c = is_open-within c.args.pool.now.wires c.args.pool.now.pages.items c.args.class c.args.page c.requires.open

@@ -3,8 +3,8 @@ use Rattle.std.proofs.lemmas.Option.{slice_get_read}
 use Rattle.mage_place.specs.Pages.{IsPage}
 use Rattle.mage_place.proofs.Changed.{open_pages-relisted, other_numbers}
 use Rattle.std.proofs.lemmas.List.{length-set}
-use Rattle.mage_place.proofs.pools.relist.Goals as goal
-use Rattle.mage_place.proofs.pools.relist.Goals.{After-index-changed}
+use Rattle.mage_place.proofs.pool.relist.Goals as goal
+use Rattle.mage_place.proofs.pool.relist.Goals.{After-index-changed}
 
 page_is : (c : After-index-changed) → slice_get c.args.pool.now.pages.items c.args.page ≡ Some c.index-changed.result.now
 page_is c = slice_get_read c.args.pool.now.pages.items (length c.args.pool.now.pages.items) c.args.page c.index-changed.result.now refl c.requires.page c.index-changed.ensures

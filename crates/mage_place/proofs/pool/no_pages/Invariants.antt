@@ -1,7 +1,7 @@
 -- So far each list is empty.
 use Rattle.std.proofs.Common.{◌≡◌, ℕ, false, length}
 use Rattle.mage_place.specs.Pools.{is_listed}
-use Rattle.mage_place.proofs.pools.no_pages.Given as goal
+use Rattle.mage_place.proofs.pool.no_pages.Given as goal
 
 abbrev pub invariant-loop : goal.invariant-loop
 invariant-loop l = record {
