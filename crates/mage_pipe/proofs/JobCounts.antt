@@ -8,7 +8,7 @@ use Rattle.mage_instr.specs.declared.replaced.Replaced.TheVariants as entry
 use Rattle.mage_instr.specs.Trace.{pages_of, IsTrace}
 use Rattle.mage_belady.specs.Plan.{Serves}
 use Rattle.mage_belady.specs.Rule.{taken, sets_from, sets_of, pages_by_step, ReadsLeast}
-use Rattle.mage_pipe.specs.Jobs.{jobs_of}
+use Rattle.mage_sched.specs.Schedule.{jobs_of}
 
 jobs_of-sets_from : (memory : List ℕ) (list : List Replaced) → jobs_of list ≡ length (sets_from memory list)
 jobs_of-sets_from memory [] = refl

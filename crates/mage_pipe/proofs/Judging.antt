@@ -11,7 +11,8 @@ use Rattle.mage_belady.specs.declared.fault.ReplaceError.{ReplaceError}
 use Rattle.mage_belady.specs.declared.fault.ReplaceError.TheVariants as errors
 use Rattle.mage_belady.specs.Rule.{rule_of, tight_of}
 use Rattle.mage_pipe.specs.Answer.{FailsTight, TightOrGives}
-use Rattle.mage_pipe.specs.Summary.{places_for, trace_for, list_for, cost_of, cost_for, buffer_tight, unless_tight, fitting_stats_of}
+use Rattle.mage_sched.specs.Schedule.{buffer_tight}
+use Rattle.mage_pipe.specs.Summary.{places_for, trace_for, list_for, cost_of, cost_for, unless_tight, fitting_stats_of}
 
 -- an answer with a list, or with the step that is too tight
 pub answers_list : {X Y : Type 0} (view : X → Y) (answer : Result X ReplaceError) (o : Option Tight) (list : Y) → IfOk answer (λ x. view x ≡ list) → ((t : Tight) → (answer ≡ Err (errors.Tight t)) ↔ (o ≡ Some t)) → TightOrGives view answer (unless_tight o list)

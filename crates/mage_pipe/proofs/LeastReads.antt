@@ -14,7 +14,8 @@ use Rattle.mage_place.proofs.Stepped.{IsTrace-from_steps}
 use Rattle.mage_place.proofs.StepsComputed.{AreSteps-computed}
 use Rattle.mage_pipe.specs.declared.stats.WorkerStats.{WorkerStats}
 use Rattle.mage_pipe.specs.Least.{ReadsAreLeast}
-use Rattle.mage_pipe.specs.Summary.{places_for, trace_for, list_for, cost_for, buffer_tight, unless_tight, if_it_fits, fitting_stats_of, worker_stats_of}
+use Rattle.mage_sched.specs.Schedule.{buffer_tight}
+use Rattle.mage_pipe.specs.Summary.{places_for, trace_for, list_for, cost_for, unless_tight, if_it_fits, fitting_stats_of, worker_stats_of}
 
 none_tight : {T : Type 0} (o p : Option Tight) (x y : T) → unless_tight (option_or o p) x ≡ Ok y → (o ≡ None) × (x ≡ y)
 none_tight (Some t) p x y h = absurd (cc)

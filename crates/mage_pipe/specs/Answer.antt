@@ -9,7 +9,8 @@ use Rattle.mage_pipe.specs.declared.fault.PlanFault.TheVariants as faults
 
 -- The fault is the definition's, unless memory ran out. Want of memory never comes as a fault of the language.
 abbrev pub Fails : {Y : Type 0} → PlanFault → Result Y PlanFault → Type 0
-Fails (faults.Lang (language.At kind line column)) defined = defined ≡ Err (faults.Lang (language.At kind line column))
+Fails (faults.Lang (language.At kind line column)) defined =
+    defined ≡ Err (faults.Lang (language.At kind line column))
 Fails (faults.Lang language.Memory) defined = ⊥
 Fails (faults.Tight worker tight) defined = defined ≡ Err (faults.Tight worker tight)
 Fails faults.Memory defined = Unit {0}

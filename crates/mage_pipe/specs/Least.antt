@@ -12,8 +12,10 @@ use Rattle.mage_pipe.specs.Summary.{trace_for, worker_stats_of}
 
 -- some plan of residency serves the trace with so many reads, and none that serves it reads fewer
 pub record IsLeast (trace : List Step) (frames reads : ℕ) : Type 0 where
-  pub reached : (plan : List (List ℕ)) × Serves plan (pages_by_step trace) frames × (reads_of plan (pages_by_step trace) ≡ reads)
-  pub least : (plan : List (List ℕ)) → Serves plan (pages_by_step trace) frames → reads ≤ reads_of plan (pages_by_step trace)
+  pub reached : (plan : List (List ℕ)) × Serves plan (pages_by_step trace) frames
+      × (reads_of plan (pages_by_step trace) ≡ reads)
+  pub least : (plan : List (List ℕ)) → Serves plan (pages_by_step trace) frames
+      → reads ≤ reads_of plan (pages_by_step trace)
 
 -- the reads that the definitions give are the fewest
 abbrev pub ReadsAreLeast : Type 0

@@ -1,6 +1,5 @@
 pub mod Answer
 pub mod Fronts
-pub mod Jobs
 pub mod Least
 pub mod Loading
 pub mod Summary

@@ -1,5 +1,5 @@
 -- What a plan for a program costs.
-use Rattle.std.specs.Prelude.{◌+◌, ℕ, max, List, [], ◌∷◌, length, nat_eq, if◌then◌else◌, Option, Some, None, option_map, Result, Ok, Err}
+use Rattle.std.specs.Prelude.{◌+◌, ℕ, max, List, [], ◌∷◌, length, Option, Some, None, Result, Ok, Err}
 use Rattle.std.specs.Option.{option_or}
 use Rattle.mage_chains.specs.Chains.{◌>>=◌}
 use Rattle.mage_instr.specs.declared.instr.Instr.{Instr}
@@ -9,11 +9,11 @@ use Rattle.mage_instr.specs.declared.replaced.Limits.{Limits}
 use Rattle.mage_instr.specs.declared.replaced.Replaced.{Replaced}
 use Rattle.mage_instr.specs.declared.replaced.Replaced.TheVariants as entry
 use Rattle.mage_instr.specs.declared.replaced.Tight.{Tight}
-use Rattle.mage_instr.specs.declared.replaced.Tight.TheVariants as tight
 use Rattle.mage_lex.specs.declared.fault.LangFault.{LangFault}
 use Rattle.mage_place.specs.Places.{next_page}
 use Rattle.mage_place.specs.TooWide.{page_tight}
 use Rattle.mage_belady.specs.Rule.{rule_of, tight_of, loads_of}
+use Rattle.mage_sched.specs.Schedule.{buffer_tight}
 use Rattle.mage_pipe.specs.declared.fault.PlanFault.{PlanFault}
 use Rattle.mage_pipe.specs.declared.fault.PlanFault.TheVariants as faults
 use Rattle.mage_pipe.specs.declared.stats.WorkerStats.{WorkerStats}
@@ -33,22 +33,6 @@ saves_of (entry.Load frame page ∷ list) = saves_of list
 saves_of (entry.Fresh frame page ∷ list) = saves_of list
 saves_of (entry.Do job ∷ list) = saves_of list
 
--- the instruction before which a page is first read or written, where those of the list are numbered from t
-abbrev pub swap_from : (t : ℕ) → List Replaced → Option ℕ
-swap_from t [] = None
-swap_from t (entry.Load frame page ∷ list) = Some t
-swap_from t (entry.Save frame page ∷ list) = Some t
-swap_from t (entry.Do job ∷ list) = swap_from (t + 1) list
-swap_from t (entry.Fresh frame page ∷ list) = swap_from t list
-
--- the first instruction before which a page is read or written
-abbrev pub first_swap : List Replaced → Option ℕ
-first_swap list = swap_from 0 list
-
--- where the buffer has no slot, each read and each write is one too many
-abbrev pub buffer_tight : (buffer : ℕ) → List Replaced → Option Tight
-buffer_tight buffer list = if nat_eq buffer 0 then option_map tight.Buffer (first_swap list) else None
-
 -- the places of the results of a worker's instructions
 abbrev pub places_for : Limits → List Instr → List Place
 places_for limits instrs = places_of instrs limits.page
@@ -63,7 +47,8 @@ list_for limits instrs = rule_of limits.frames instrs (places_for limits instrs)
 
 -- which limit is too low for a worker's instructions, if each value fits a page: first the frames, and then the buffer
 abbrev pub tight_for : Limits → List Instr → Option Tight
-tight_for limits instrs = option_or (tight_of limits.frames 0 (trace_for limits instrs)) (buffer_tight limits.buffer (list_for limits instrs))
+tight_for limits instrs =
+    option_or (tight_of limits.frames 0 (trace_for limits instrs)) (buffer_tight limits.buffer (list_for limits instrs))
 
 -- what a plan costs: its instructions, their places, the trace and the list are counted
 abbrev pub cost_of : List Instr → List Place → List Step → List Replaced → WorkerStats

@@ -3,8 +3,7 @@ ghost use Rattle.std.specs.Prelude.{◌≡◌, ◌≤◌};
 ghost use Rattle.mage_instr.specs.declared.instr.TheConstants.{NEVER};
 ghost use Rattle.mage_place.specs.Places.{next_page};
 ghost use Rattle.mage_belady.specs.Rule.{loads_of};
-ghost use Rattle.mage_pipe.specs.Summary.{most_pages, saves_of, first_swap};
-ghost use Rattle.mage_pipe.specs.Jobs.{jobs_of};
+ghost use Rattle.mage_pipe.specs.Summary.{most_pages, saves_of};
 
 use mage_instr::{Place, Replaced, Step};
 
@@ -57,20 +56,4 @@ pub(crate) fn saves(list: &[Replaced]) -> u64
         }
     }
     count
-}
-
-// The first instruction before which a page is read or written.
-pub(crate) fn first_swap(list: &[Replaced]) -> Option<u32>
-    requires { jobs_of list.now ≤ NEVER }
-    ensures { result ≡ first_swap list.now }
-{
-    let mut done = 0;
-    for entry in list {
-        match entry {
-            Replaced::Load { .. } | Replaced::Save { .. } => return Some(done),
-            Replaced::Do(_) => done += 1,
-            Replaced::Fresh { .. } => {}
-        }
-    }
-    None
 }

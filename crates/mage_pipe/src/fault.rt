@@ -1,3 +1,4 @@
+// Why there is no plan.
 use mage_instr::Tight;
 use mage_lex::LangFault;
 use thiserror::Error;

@@ -56,7 +56,8 @@ fn parsed(alloc: Global, text: &[u8], tokens: &[Token]) -> Result<Source, LangFa
 }
 
 fn unrolled(alloc: Global, source: &Source) -> Result<Program, LangFault>
-    ensures program { Gives (λ program. program) result (unrolled_of source.now.workers source.now.body) }
+    ensures program { Gives (λ program. program) result
+        (unrolled_of source.now.workers source.now.body) }
     ensures sound { IfOk result (λ program. All IsSound program.workers) }
     ensures linked { IfOk result IsLinked }
     ensures few { IfOk result (λ program. length program.workers ≤ most_workers) }

@@ -2,6 +2,7 @@
 ghost use Rattle.std.specs.Prelude.{◌≡◌, ◌≤◌, length, IfOk};
 ghost use Rattle.std.specs.List.{All};
 ghost use Rattle.mage_instr.specs.Limits.{AreInRange};
+ghost use Rattle.mage_instr.specs.Opcodes.{most_workers};
 ghost use Rattle.mage_instr.specs.Sound.{IsSound};
 ghost use Rattle.mage_pipe.specs.Answer.{Gives};
 ghost use Rattle.mage_pipe.specs.Loading.{loaded_of};
@@ -32,14 +33,14 @@ use std::alloc::Global;
 /// pages than there are frames, and else `Buffer` where there is no slot, at the first instruction before which a page
 /// is read or written. `Lang` never comes. `Memory` may come at any time.
 ///
-/// One worker's lists are gone before the next worker's are made. The time may grow with the number of frames.
+/// One worker's lists are gone before the next worker's are made.
 pub fn program_stats(
     alloc: Global,
     program: &Program,
     limits: Limits,
 ) -> Result<Vec<WorkerStats>, PlanFault>
     requires sound { All IsSound program.now.workers }
-    requires few { length program.now.workers ≤ 16 }
+    requires few { length program.now.workers ≤ most_workers }
     requires limits { AreInRange limits }
     ensures stats { Gives (λ stats. stats.items) result (stats_of limits program.now.workers) }
 {
@@ -63,7 +64,7 @@ pub fn summary(alloc: Global, text: &[u8], limits: Limits) -> Result<Vec<WorkerS
 fn loaded(alloc: Global, text: &[u8]) -> Result<Loaded, PlanFault>
     ensures loaded { Gives (λ loaded. loaded) result (or_language (loaded_of text.now)) }
     ensures sound { IfOk result (λ loaded. All IsSound loaded.program.workers) }
-    ensures few { IfOk result (λ loaded. length loaded.program.workers ≤ 16) }
+    ensures few { IfOk result (λ loaded. length loaded.program.workers ≤ most_workers) }
 {
     match load(alloc, text) {
         Ok(loaded) => Ok(loaded),
@@ -79,7 +80,7 @@ fn stats_of(
     limits: Limits,
 ) -> Result<Vec<WorkerStats>, PlanFault>
     requires sound { All IsSound workers.now }
-    requires few { length workers.now ≤ 16 }
+    requires few { length workers.now ≤ most_workers }
     requires limits { AreInRange limits }
     ensures { Gives (λ stats. stats.items) result (stats_of limits workers.now) }
 {

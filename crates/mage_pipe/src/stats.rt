@@ -1,3 +1,5 @@
+// What a plan costs.
+
 /// What the plan for a worker's instructions costs.
 #[derive(Clone, Copy, Debug, PartialEq, Eq)]
 pub struct WorkerStats {

@@ -10,15 +10,16 @@ ghost use Rattle.mage_belady.specs.declared.fault.ReplaceError.TheVariants as er
 ghost use Rattle.mage_belady.specs.Placed.{FitsTrace};
 ghost use Rattle.mage_belady.specs.Rule.{rule_of, tight_of};
 ghost use Rattle.mage_pipe.specs.Answer.{TightOrGives};
-ghost use Rattle.mage_pipe.specs.Jobs.{jobs_of};
-ghost use Rattle.mage_pipe.specs.Summary.{places_for, trace_for, buffer_tight, cost_of, unless_tight, fitting_stats_of, worker_stats_of};
+ghost use Rattle.mage_pipe.specs.Summary.{places_for, trace_for, cost_of, unless_tight, fitting_stats_of, worker_stats_of};
+ghost use Rattle.mage_sched.specs.Schedule.{jobs_of};
 
 use crate::WorkerStats;
-use crate::counts::{first_swap, loads, most_pages, page_count, saves};
+use crate::counts::{loads, most_pages, page_count, saves};
 use mage_belady::{ReplaceError, replace};
-use mage_instr::{Instr, Limits, Place, Replaced, Step, Tight};
+use mage_instr::{Instr, Limits, Place, Replaced, Step};
 use mage_next::next_uses;
 use mage_place::{page_tight, place};
+use mage_sched::buffer_tight;
 use std::alloc::Global;
 
 // What the plan for a worker's instructions costs, or the limit that is too low.
@@ -88,23 +89,12 @@ fn listed(
     requires trace { IsTrace trace.now }
     requires places { FitsTrace instrs.now places.now trace.now }
     ensures list { TightOrGives (λ list. list.items) result
-        (unless_tight (tight_of limits.frames 0 trace.now) (rule_of limits.frames instrs.now places.now trace.now)) }
+        (unless_tight (tight_of limits.frames 0 trace.now)
+        (rule_of limits.frames instrs.now places.now trace.now)) }
     ensures few { IfOk result (λ list. jobs_of list.items ≤ NEVER) }
 {
     let uses = next_uses(alloc, trace).map_err(|_| ReplaceError::Memory)?;
     replace(alloc, instrs, places, trace, &uses, limits.frames)
-}
-
-// Where the buffer has no slot, the first instruction before which a page is read or written.
-fn buffer_tight(buffer: u16, list: &[Replaced]) -> Option<Tight>
-    requires { jobs_of list.now ≤ NEVER }
-    ensures { result ≡ buffer_tight buffer list.now }
-{
-    if buffer > 0 {
-        return None;
-    }
-    let instr = first_swap(list)?;
-    Some(Tight::Buffer { instr })
 }
 
 // What is counted over the instructions and their plan.

@@ -6,6 +6,7 @@ use Rattle.mage_instr.specs.declared.replaced.Limits.{Limits}
 use Rattle.mage_lex.specs.declared.fault.LangFault.{LangFault}
 use Rattle.mage_lex.specs.declared.fault.LangFault.TheVariants as lang
 use Rattle.mage_lex.specs.declared.fault.LangKind.TheVariants as kind
+use Rattle.mage_lex.specs.Limits.{MOST_BYTES}
 use Rattle.mage_instr.specs.declared.party.Party.{Party}
 use Rattle.mage_instr.specs.declared.party.Party.TheVariants as party
 use Rattle.mage_meaning.specs.Given.{Given}
@@ -48,15 +49,19 @@ pub record Found : Type 0 where
   pub garbler : File
   pub evaluator : File
 
--- A source has at most 1,048,576 bytes, and an input text at most 67,108,864. `stats` reads no input text.
+-- the most bytes of an input text
+abbrev pub INPUT_LIMIT : ℕ
+INPUT_LIMIT = 67108864
+
+-- A source is no longer than a text may be. `stats` reads no input text.
 abbrev pub found_in : Files → Request → Found
 found_in files (Solo solo) = record {
-  source = file_at files solo.source 1048576;
-  garbler = file_named files solo.garbler 67108864;
-  evaluator = file_named files solo.evaluator 67108864;
+  source = file_at files solo.source MOST_BYTES;
+  garbler = file_named files solo.garbler INPUT_LIMIT;
+  evaluator = file_named files solo.evaluator INPUT_LIMIT;
 }
 found_in files (Stats stats) = record {
-  source = file_at files stats.source 1048576;
+  source = file_at files stats.source MOST_BYTES;
   garbler = Absent;
   evaluator = Absent;
 }

@@ -1,3 +1,4 @@
+// The exit codes.
 ghost use Rattle.std.specs.Prelude.{◌≡◌};
 ghost use Rattle.mage_planner.specs.Codes.{code_of};
 ghost use Rattle.mage_planner.specs.Lines.{status_of};

@@ -5,7 +5,7 @@ ghost use Rattle.mage_instr.specs.Sound.{IsSound};
 ghost use Rattle.mage_texts.specs.Lists.{lists_of};
 ghost use Rattle.mage_texts.specs.InputText.{inputs_of};
 ghost use Rattle.mage_planner.specs.declared.refusal.Refusal.TheVariants as refusals;
-ghost use Rattle.mage_planner.specs.Outcome.{File, file_named, bytes_or, or_line, numbers_of};
+ghost use Rattle.mage_planner.specs.Outcome.{INPUT_LIMIT, File, file_named, bytes_or, or_line, numbers_of};
 ghost use Rattle.mage_planner.specs.Steps.{Gives, StepCounted, IsNoDeskFault};
 
 use crate::Refusal;
@@ -27,7 +27,7 @@ fn fetch_input<D: Desk>(
 ) -> Result<Vec<u8>, Refusal>
     ensures told { IfSome (D.tells desk.old).files (λ files. Gives (D.tells desk.old).steady
         (λ bytes. bytes.items) result (bytes_or (refusals.InputTooLong party)
-        (file_named files (option_map (λ n. n.now) name.entry) 67108864))) }
+        (file_named files (option_map (λ n. n.now) name.entry) INPUT_LIMIT))) }
     ensures some { (file : File) × Gives true (λ bytes. bytes.items) result
         (bytes_or (refusals.InputTooLong party) file) }
     ensures cause { StepCounted (D.tells desk.old).faults (D.tells desk.new).faults result }
@@ -78,7 +78,7 @@ pub fn read_numbers<D: Desk>(
     requires { All IsSound loaded.now.program.workers }
     ensures told { IfSome (D.tells desk.old).files (λ files. Gives (D.tells desk.old).steady
         (λ numbers. lists_of numbers.items) result (numbers_of party loaded.now
-        (file_named files (option_map (λ n. n.now) name.entry) 67108864))) }
+        (file_named files (option_map (λ n. n.now) name.entry) INPUT_LIMIT))) }
     ensures some { (file : File) × Gives true (λ numbers. lists_of numbers.items) result
         (numbers_of party loaded.now file) }
     ensures cause { StepCounted (D.tells desk.old).faults (D.tells desk.new).faults result }

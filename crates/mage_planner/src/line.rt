@@ -101,7 +101,8 @@ fn language_line(
     line: u32,
     column: u32,
 ) -> Result<String, AllocError>
-    ensures { IfOk result (λ text. string_bytes text ≡ line_of (refusal.Language kind line column)) }
+    ensures { IfOk result (λ text.
+        string_bytes text ≡ line_of (refusal.Language kind line column)) }
 {
     let kind = kind_name(kind);
     format!(in alloc; "mage: source {line}:{column}: {kind}\n")

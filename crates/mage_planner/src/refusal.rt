@@ -1,3 +1,4 @@
+// Why a command isn't done.
 use mage_instr::{Party, Tight};
 use mage_lex::LangKind;
 

@@ -34,7 +34,8 @@ pub fn solo<D: Desk>(alloc: Global, solo: Solo<'_>, desk: &mut D) -> Result<Vec<
     requires limits { AreInRange solo.limits }
     ensures told { IfSome (D.tells desk.old).files (λ files. Gives (D.tells desk.old).steady
         (λ text. says text.items) result
-        (solo_outcome (found_in files (words.Solo (solo_view solo.entry))) (solo_view solo.entry))) }
+        (solo_outcome (found_in files (words.Solo (solo_view solo.entry)))
+        (solo_view solo.entry))) }
     ensures some { (found : Found) × Gives true (λ text. says text.items) result
         (solo_outcome found (solo_view solo.entry)) }
     ensures cause { StepCounted (D.tells desk.old).faults (D.tells desk.new).faults result }

@@ -1,7 +1,9 @@
 // The source of a command: fetched, read and planned.
 ghost use Rattle.std.specs.Prelude.{◌≡◌, ◌≤◌, ℕ, true, length, All, IfSome, IfOk};
 ghost use Rattle.mage_instr.specs.Limits.{AreInRange};
+ghost use Rattle.mage_instr.specs.Opcodes.{most_workers};
 ghost use Rattle.mage_instr.specs.Sound.{IsSound};
+ghost use Rattle.mage_lex.specs.Limits.{MOST_BYTES};
 ghost use Rattle.mage_pipe.specs.Loading.{loaded_of};
 ghost use Rattle.mage_planner.specs.Outcome.{File, file_at, bytes_or, or_language, lang_refusal, plan_refusal, long_source, source_of, costs_of, if_planned, planned_of};
 ghost use Rattle.mage_planner.specs.Steps.{Gives, StepCounted, IsNoDeskFault};
@@ -49,7 +51,7 @@ fn of_plan(fault: PlanFault) -> Refusal
 // The bytes of a source's file.
 fn fetch_source<D: Desk>(alloc: Global, desk: &mut D, name: &str) -> Result<Vec<u8>, Refusal>
     ensures told { IfSome (D.tells desk.old).files (λ files. Gives (D.tells desk.old).steady
-        (λ bytes. bytes.items) result (bytes_or long_source (file_at files name.now 1048576))) }
+        (λ bytes. bytes.items) result (bytes_or long_source (file_at files name.now MOST_BYTES))) }
     ensures some { (file : File) × Gives true (λ bytes. bytes.items) result
         (bytes_or long_source file) }
     ensures cause { StepCounted (D.tells desk.old).faults (D.tells desk.new).faults result }
@@ -68,7 +70,7 @@ fn fetch_source<D: Desk>(alloc: Global, desk: &mut D, name: &str) -> Result<Vec<
 fn loaded(alloc: Global, text: &[u8]) -> Result<Loaded, Refusal>
     ensures loaded { Gives true (λ loaded. loaded) result (or_language (loaded_of text.now)) }
     ensures sound { IfOk result (λ loaded. All IsSound loaded.program.workers) }
-    ensures few { IfOk result (λ loaded. length loaded.program.workers ≤ 16) }
+    ensures few { IfOk result (λ loaded. length loaded.program.workers ≤ most_workers) }
     ensures quiet { (faults : ℕ) → StepCounted faults faults result }
     ensures no_fault { IsNoDeskFault result }
 {
@@ -81,7 +83,7 @@ fn loaded(alloc: Global, text: &[u8]) -> Result<Loaded, Refusal>
 /// What a plan for the program costs, worker by worker.
 pub fn costs(alloc: Global, loaded: &Loaded, limits: Limits) -> Result<Vec<WorkerStats>, Refusal>
     requires sound { All IsSound loaded.now.program.workers }
-    requires few { length loaded.now.program.workers ≤ 16 }
+    requires few { length loaded.now.program.workers ≤ most_workers }
     requires limits { AreInRange limits }
     ensures costs { Gives true (λ costs. costs.items) result (costs_of limits loaded.now) }
     ensures quiet { (faults : ℕ) → StepCounted faults faults result }
@@ -97,7 +99,7 @@ pub fn costs(alloc: Global, loaded: &Loaded, limits: Limits) -> Result<Vec<Worke
 #[tactic(auto, unfolding(crate::specs::Outcome::if_planned))]
 fn planned(alloc: Global, loaded: Loaded, limits: Limits) -> Result<Loaded, Refusal>
     requires sound { All IsSound loaded.program.workers }
-    requires few { length loaded.program.workers ≤ 16 }
+    requires few { length loaded.program.workers ≤ most_workers }
     requires limits { AreInRange limits }
     ensures planned { Gives true (λ loaded. loaded) result (if_planned limits loaded) }
     ensures sound { IfOk result (λ loaded. All IsSound loaded.program.workers) }
@@ -112,10 +114,10 @@ fn planned(alloc: Global, loaded: Loaded, limits: Limits) -> Result<Loaded, Refu
 #[tactic(auto, unfolding(crate::specs::Outcome::source_of))]
 pub fn read_source<D: Desk>(alloc: Global, desk: &mut D, name: &str) -> Result<Loaded, Refusal>
     ensures told { IfSome (D.tells desk.old).files (λ files. Gives (D.tells desk.old).steady
-        (λ loaded. loaded) result (source_of (file_at files name.now 1048576))) }
+        (λ loaded. loaded) result (source_of (file_at files name.now MOST_BYTES))) }
     ensures some { (file : File) × Gives true (λ loaded. loaded) result (source_of file) }
     ensures sound { IfOk result (λ loaded. All IsSound loaded.program.workers) }
-    ensures few { IfOk result (λ loaded. length loaded.program.workers ≤ 16) }
+    ensures few { IfOk result (λ loaded. length loaded.program.workers ≤ most_workers) }
     ensures cause { StepCounted (D.tells desk.old).faults (D.tells desk.new).faults result }
     ensures rest { D.tells desk.new
         ≡ record (D.tells desk.old) { faults = (D.tells desk.new).faults } }
@@ -134,7 +136,7 @@ pub fn read_planned<D: Desk>(
 ) -> Result<Loaded, Refusal>
     requires limits { AreInRange limits }
     ensures told { IfSome (D.tells desk.old).files (λ files. Gives (D.tells desk.old).steady
-        (λ loaded. loaded) result (planned_of limits (file_at files name.now 1048576))) }
+        (λ loaded. loaded) result (planned_of limits (file_at files name.now MOST_BYTES))) }
     ensures some { (file : File) × Gives true (λ loaded. loaded) result (planned_of limits file) }
     ensures sound { IfOk result (λ loaded. All IsSound loaded.program.workers) }
     ensures cause { StepCounted (D.tells desk.old).faults (D.tells desk.new).faults result }

@@ -19,9 +19,10 @@ use std::alloc::Global;
 // Does the work, and says in one call what it comes to.
 fn run<D: Desk>(alloc: Global, words: &[String], desk: &mut D) -> Result<(), Refusal>
     ensures told { IfSome (D.tells desk.old).files (λ files. Works (D.tells desk.old).steady
-        (outcome_in files (bytes_of_words words.now)) result (D.tells desk.old) (D.tells desk.new)) }
-    ensures some { (found : Found) × Works true (outcome_of found (bytes_of_words words.now)) result
-        (D.tells desk.old) (D.tells desk.new) }
+        (outcome_in files (bytes_of_words words.now)) result (D.tells desk.old)
+        (D.tells desk.new)) }
+    ensures some { (found : Found) × Works true (outcome_of found (bytes_of_words words.now))
+        result (D.tells desk.old) (D.tells desk.new) }
     ensures cause { StepCounted (D.tells desk.old).faults (D.tells desk.new).faults result }
     ensures steady { IsTrue (D.tells desk.old).steady → IfSome (D.tells desk.old).files (λ files.
         IsNoDeskFault (outcome_in files (bytes_of_words words.now))
@@ -54,11 +55,12 @@ pub fn planner<D: Desk>(alloc: Global, words: &[String], desk: &mut D) -> Status
     // Where the desk tells its files, they and the words decide; with Ok, just the outputs or the summary is said, and
     // nothing is warned. Every file stays but those that the command writes, of which there are none yet.
     ensures told { IfSome (D.tells desk.old).files (λ files. Answers (D.tells desk.old).steady
-        (outcome_in files (bytes_of_words words.now)) result (D.tells desk.old) (D.tells desk.new)) }
+        (outcome_in files (bytes_of_words words.now)) result (D.tells desk.old)
+        (D.tells desk.new)) }
 
     // Where it doesn't, some files do; a file that couldn't be read counts as absent.
-    ensures some { (found : Found) × Answers true (outcome_of found (bytes_of_words words.now)) result
-        (D.tells desk.old) (D.tells desk.new) }
+    ensures some { (found : Found) × Answers true (outcome_of found (bytes_of_words words.now))
+        result (D.tells desk.old) (D.tells desk.new) }
 
     // The tokens of a source are read just as the grammar has it.
     ensures reading { ReadingIsTheGrammar }
@@ -76,7 +78,8 @@ pub fn planner<D: Desk>(alloc: Global, words: &[String], desk: &mut D) -> Status
     // It doesn't give up but for want of memory.
     ensures complete { IfSome (D.tells desk.old).files (λ files.
         refusal_of (outcome_in files (bytes_of_words words.now)) ≡ None
-        → (Rose (D.tells desk.old).faults (D.tells desk.new).faults → ⊥) → IsOkOrMemory result) }
+        → (Rose (D.tells desk.old).faults (D.tells desk.new).faults → ⊥)
+        → IsOkOrMemory result) }
 
     // A steady desk doesn't fail that has each file that the command reads, and room for what is said
     // and warned.

@@ -1,144 +1,134 @@
 // Faults of the desk, and two commands on one desk.
-use crate::cases::{SOLO, SUM, desk_with, words_of};
-use mage_base::{DeskFails, Items};
-use mage_planner::{Status, planner};
+use crate::cases::{Row, SOLO, SUM, desk_with, refused, run_with, status_of, words_of};
+use mage_base::{DeskFails, MemDesk, Memory};
+use mage_planner::Status;
 use std::alloc::Global;
 use std::process::Abort;
 use std::test::Fail;
 
-const DESK_FAULT: &str = "mage: desk fault\n";
+const DESK_FAULT: &[u8] = b"mage: desk fault\n";
 
-// A call of the desk that fails; then the status, what is said and what is warned.
-#[derive(Clone, Copy)]
-struct Failing {
-    call: u64,
+// A command on two numbers.
+fn row_of(
+    words: &'static str,
+    source: &'static [u8],
     status: Status,
-    said: &'static str,
-    warned: &'static str,
-}
-
-fn refused(call: u64) -> Failing {
-    Failing {
-        call,
-        status: Status::Desk,
-        said: "",
-        warned: DESK_FAULT,
-    }
-}
-
-fn done(call: u64, said: &'static str) -> Failing {
-    Failing {
-        call,
-        status: Status::Ok,
-        said,
-        warned: "",
-    }
-}
-
-fn unwarned(call: u64, status: Status) -> Failing {
-    Failing {
-        call,
+    said: &'static [u8],
+    warned: &'static [u8],
+) -> Row<'static> {
+    Row {
+        words,
+        source,
+        garbler: b"200",
+        evaluator: b"100",
         status,
-        said: "",
-        warned: "",
+        said,
+        warned,
     }
 }
 
-fn check_row(
-    rt: &impl Abort,
-    alloc: Global,
-    line: &str,
-    source: &[u8],
-    row: Failing,
-) -> Result<(), Fail> {
-    let call = row.call;
-    let words = words_of(alloc, line)?;
+fn run_failing(rt: &impl Abort, alloc: Global, call: u64, row: &Row<'_>) -> Result<(), Memory> {
     let mut fails = DeskFails::none(alloc);
-    fails.desk = Items::from_slice(alloc, &[call])?;
-    let mut desk = desk_with(alloc, &fails, 1000, source, b"200", b"100")?;
-    assert_eq!(rt;
-        planner(alloc, &words, &mut desk),
-        row.status,
-        "{line}: {call}"
-    );
-    assert_eq!(rt; desk.said(), row.said.as_bytes(), "{line}: {call}");
-    assert_eq!(rt; desk.warned(), row.warned.as_bytes(), "{line}: {call}");
-    Ok(())
+    fails.desk.push(call)?;
+    run_with(rt, alloc, &fails, 1000, row)
+}
+
+// Runs a row, where one call of the desk fails.
+fn failing(rt: &impl Abort, alloc: Global, call: u64, row: &Row<'_>) {
+    let ran = run_failing(rt, alloc, call, row);
+    assert!(rt; ran.is_ok(), "no memory for {} at {call}", row.words);
 }
 
 // `solo` fetches three times and says once; a fifth call isn't made. `stats` fetches and says once. A warning that fails
 // changes no status.
-fn failing_calls(rt: &impl Abort, alloc: Global) -> Result<(), Fail> {
-    for call in 0..4 {
-        check_row(rt, alloc, SOLO, SUM, refused(call))?;
-    }
-    check_row(rt, alloc, SOLO, SUM, done(4, "44\n"))?;
+fn failing_calls(rt: &impl Abort, alloc: Global) {
     let stats = "stats --source s";
-    for call in 0..2 {
-        check_row(rt, alloc, stats, SUM, refused(call))?;
+    let costs = b"worker 0 instructions 4 pages 1 needs 1 reads 0 writes 0\n";
+    for call in 0..4 {
+        let refused = row_of(SOLO, SUM, Status::Desk, b"", DESK_FAULT);
+        failing(rt, alloc, call, &refused);
     }
-    let costs = "worker 0 instructions 4 pages 1 needs 1 reads 0 writes 0\n";
-    check_row(rt, alloc, stats, SUM, done(2, costs))?;
-    check_row(rt, alloc, SOLO, b"output y;", unwarned(1, Status::Language))?;
-    check_row(rt, alloc, "solo", SUM, unwarned(0, Status::Words))
+    failing(rt, alloc, 4, &row_of(SOLO, SUM, Status::Ok, b"44\n", b""));
+    for call in 0..2 {
+        let refused = row_of(stats, SUM, Status::Desk, b"", DESK_FAULT);
+        failing(rt, alloc, call, &refused);
+    }
+    failing(rt, alloc, 2, &row_of(stats, SUM, Status::Ok, costs, b""));
+    let unknown = row_of(SOLO, b"output y;", Status::Language, b"", b"");
+    failing(rt, alloc, 1, &unknown);
+    failing(rt, alloc, 0, &row_of("solo", SUM, Status::Words, b"", b""));
 }
 
-fn check_missing(rt: &impl Abort, alloc: Global, line: &str) -> Result<(), Fail> {
-    let fails = DeskFails::none(alloc);
-    let words = words_of(alloc, line)?;
-    let mut desk = desk_with(alloc, &fails, 1000, SUM, b"200", b"100")?;
-    assert_eq!(rt; planner(alloc, &words, &mut desk), Status::Desk, "{line}");
-    assert_eq!(rt; desk.said(), b"".as_slice(), "{line}");
-    assert_eq!(rt; desk.warned(), DESK_FAULT.as_bytes(), "{line}");
-    Ok(())
-}
-
-// Of what is said, and of what is warned, there is what fits.
-fn too_little_room(rt: &impl Abort, alloc: Global) -> Result<(), Fail> {
-    let fails = DeskFails::none(alloc);
-    let words = words_of(alloc, SOLO)?;
-    let mut desk = desk_with(alloc, &fails, 2, SUM, b"200", b"100")?;
-    assert_eq!(rt; planner(alloc, &words, &mut desk), Status::Desk);
-    assert_eq!(rt; desk.said(), b"44".as_slice());
-    assert_eq!(rt; desk.warned(), b"ma".as_slice());
-    Ok(())
-}
-
-#[test]
-fn the_desk_may_fail(rt: HostRuntime) -> Result<(), Fail> {
-    let alloc = rt.alloc();
-    failing_calls(&rt, alloc)?;
+fn missing_files(rt: &impl Abort, alloc: Global) {
     for line in [
         "solo --source missing --garbler g --evaluator e",
         "solo --source s --garbler missing --evaluator e",
         "solo --source s --garbler g --evaluator missing",
         "stats --source missing",
     ] {
-        check_missing(&rt, alloc, line)?;
+        refused(
+            rt,
+            alloc,
+            line,
+            SUM,
+            b"200",
+            b"100",
+            Status::Desk,
+            DESK_FAULT,
+        );
     }
-    too_little_room(&rt, alloc)
+}
+
+// Of what is said, and of what is warned, there is what fits.
+fn too_little_room(rt: &impl Abort, alloc: Global) -> Result<(), Memory> {
+    let row = row_of(SOLO, SUM, Status::Desk, b"44", b"ma");
+    run_with(rt, alloc, &DeskFails::none(alloc), 2, &row)
+}
+
+#[test]
+fn the_desk_may_fail(rt: HostRuntime) -> Result<(), Fail> {
+    let alloc = rt.alloc();
+    failing_calls(&rt, alloc);
+    missing_files(&rt, alloc);
+    too_little_room(&rt, alloc)?;
+    Ok(())
+}
+
+fn twice_each(
+    rt: &impl Abort,
+    alloc: Global,
+    desk: &mut MemDesk,
+    solo: &[String],
+    none: &[String],
+) {
+    assert_eq!(rt; status_of(alloc, solo, desk), Status::Ok);
+    assert_eq!(rt; status_of(alloc, none, desk), Status::Words);
+    assert_eq!(rt; status_of(alloc, solo, desk), Status::Ok);
+    assert_eq!(rt; status_of(alloc, none, desk), Status::Words);
+    assert_eq!(rt; desk.said(), b"44\n44\n".as_slice());
+    assert_eq!(rt;
+        desk.warned(),
+        b"mage: bad words\nmage: bad words\n".as_slice()
+    );
+}
+
+fn on_one_desk(
+    rt: &impl Abort,
+    alloc: Global,
+    solo: &[String],
+    none: &[String],
+) -> Result<(), Memory> {
+    let mut desk = desk_with(alloc, &DeskFails::none(alloc), 32, SUM, b"200", b"100")?;
+    twice_each(rt, alloc, &mut desk, solo, none);
+    Ok(())
 }
 
 // What the second says stands behind what the first said, and so do their lines.
 #[test]
 fn commands_follow_one_another(rt: HostRuntime) -> Result<(), Fail> {
     let alloc = rt.alloc();
-    let fails = DeskFails::none(alloc);
     let solo = words_of(alloc, SOLO)?;
     let none = words_of(alloc, "solo")?;
-    let mut desk = desk_with(alloc, &fails, 32, SUM, b"200", b"100")?;
-    for (words, status) in [
-        (&solo, Status::Ok),
-        (&none, Status::Words),
-        (&solo, Status::Ok),
-        (&none, Status::Words),
-    ] {
-        assert_eq!(rt; planner(alloc, words, &mut desk), status);
-    }
-    assert_eq!(rt; desk.said(), b"44\n44\n".as_slice());
-    assert_eq!(rt;
-        desk.warned(),
-        b"mage: bad words\nmage: bad words\n".as_slice()
-    );
+    on_one_desk(&rt, alloc, &solo, &none)?;
     Ok(())
 }

@@ -1,7 +1,7 @@
 // The words of the commands, and the exit codes.
-use crate::cases::{SUM, check, desk_with, done, refused};
-use mage_base::DeskFails;
-use mage_planner::{Status, planner};
+use crate::cases::{Row, SUM, comes_to, desk_with, done, refused};
+use mage_base::{DeskFails, Memory};
+use mage_planner::Status;
 use std::alloc::Global;
 use std::process::Abort;
 use std::test::Fail;
@@ -29,11 +29,19 @@ const LINES: [&str; 17] = [
     "Stats --source s",
 ];
 
-fn no_words(rt: &impl Abort, alloc: Global) -> Result<(), Fail> {
+fn no_words(rt: &impl Abort, alloc: Global) -> Result<(), Memory> {
     let fails = DeskFails::none(alloc);
     let mut desk = desk_with(alloc, &fails, 1000, SUM, b"200", b"100")?;
-    assert_eq!(rt; planner(alloc, &[], &mut desk), Status::Words);
-    assert_eq!(rt; desk.warned(), BAD_WORDS);
+    let row = Row {
+        words: "",
+        source: SUM,
+        garbler: b"200",
+        evaluator: b"100",
+        status: Status::Words,
+        said: b"",
+        warned: BAD_WORDS,
+    };
+    comes_to(rt, alloc, &[], &mut desk, &row);
     Ok(())
 }
 
@@ -42,14 +50,22 @@ fn words_are_read(rt: HostRuntime) -> Result<(), Fail> {
     let alloc = rt.alloc();
     no_words(&rt, alloc)?;
     for line in LINES {
-        let row = refused(line, SUM, b"200", b"100", Status::Words, BAD_WORDS);
-        check(&rt, alloc, &[row])?;
+        refused(
+            &rt,
+            alloc,
+            line,
+            SUM,
+            b"200",
+            b"100",
+            Status::Words,
+            BAD_WORDS,
+        );
     }
     for line in [
         "solo --source s --garbler g --evaluator e --page 65536 --frames 56",
         "solo --evaluator e --driver plain --garbler g --source s",
     ] {
-        check(&rt, alloc, &[done(line, SUM, b"200", b"100", b"44\n")])?;
+        done(&rt, alloc, line, SUM, b"200", b"100", b"44\n");
     }
     Ok(())
 }

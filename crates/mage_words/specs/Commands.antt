@@ -23,7 +23,8 @@ limit_options = option.Page ∷ option.Frames ∷ option.Buffer ∷ option.Ahead
 
 -- the table
 abbrev pub command_rule : CommandName → CommandRule
-command_rule command.Solo = command_row (codes "solo") (option.Source ∷ option.Garbler ∷ option.Evaluator ∷ option.Driver ∷ limit_options)
+command_rule command.Solo = command_row (codes "solo")
+    (option.Source ∷ option.Garbler ∷ option.Evaluator ∷ option.Driver ∷ limit_options)
 command_rule command.Stats = command_row (codes "stats") (option.Source ∷ limit_options)
 
 -- all commands

@@ -91,9 +91,13 @@ value_of pairs rule = option_or (given pairs rule.name) (default_of rule.absence
 
 -- ---- values
 
+-- the most digits of a number, with leading zeros
+abbrev pub most_digits : ℕ
+most_digits = 20
+
 -- 1 to 20 decimal digits
 abbrev pub is_number : List ℕ → Bool
-is_number text = nat_le 1 (length text) && (nat_le (length text) 20 && list_all is_ascii_digit text)
+is_number text = nat_le 1 (length text) && (nat_le (length text) most_digits && list_all is_ascii_digit text)
 
 -- the number that a text writes, where it is one in this range
 abbrev pub number_in : (least most : ℕ) → List ℕ → Option ℕ

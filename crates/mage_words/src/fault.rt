@@ -1,3 +1,4 @@
+// Why words ask for nothing.
 use thiserror::Error;
 
 /// Why words ask for nothing.

@@ -31,7 +31,8 @@ fn command_of<'a>(
     name: &'a str,
     options: &[OptionName],
 ) -> Result<Command<'a>, AllocError>
-    ensures { IfOk result (λ command. app_of command ≡ clap_app name.now (map rule_of options.now)) }
+    ensures { IfOk result (λ command.
+        app_of command ≡ clap_app name.now (map rule_of options.now)) }
 {
     let mut command = Command::new(alloc, name).disable_help_flag(true);
     for option in options {
@@ -60,11 +61,15 @@ pub fn matches_of<'a>(
 ) -> Result<ArgMatches<'a>, WordsFault>
     requires apart { are_apart (map rule_of options.now) ≡ true }
     requires command { 0 < length words.now }
-    ensures taken { IfOk result (λ _. (pairs : List Pair) → pairs_of (drop 1 (bytes_of_words words.now)) ≡ Some pairs
+    ensures taken { IfOk result (λ _. (pairs : List Pair)
+        → pairs_of (drop 1 (bytes_of_words words.now)) ≡ Some pairs
         → takes (map rule_of options.now) pairs ≡ true) }
-    ensures values { IfOk result (λ matches. (pairs : List Pair) → pairs_of (drop 1 (bytes_of_words words.now)) ≡ Some pairs
-        → All (λ rule. first_value (found_of matches) rule.name ≡ value_of pairs rule) (map rule_of options.now)) }
-    ensures refused { IfErr result (λ fault. (pairs : List Pair) → pairs_of (drop 1 (bytes_of_words words.now)) ≡ Some pairs
+    ensures values { IfOk result (λ matches. (pairs : List Pair)
+        → pairs_of (drop 1 (bytes_of_words words.now)) ≡ Some pairs
+        → All (λ rule. first_value (found_of matches) rule.name ≡ value_of pairs rule)
+        (map rule_of options.now)) }
+    ensures refused { IfErr result (λ fault. (pairs : List Pair)
+        → pairs_of (drop 1 (bytes_of_words words.now)) ≡ Some pairs
         → fault ≡ WordsFault.Words → takes (map rule_of options.now) pairs ≡ false) }
 {
     let Ok(command) = command_of(alloc, name, options) else {

@@ -28,10 +28,11 @@ fn is_value_word(word: &[u8]) -> bool
 
 // The words behind the first two, where these are a pair.
 fn behind_pair(words: &[String]) -> Option<&[String]>
-    ensures pairs { IfSome result (λ rest.
-        is_some (pairs_of (bytes_of_words rest.now)) ≡ is_some (pairs_of (bytes_of_words words.now))) }
+    ensures pairs { IfSome result (λ rest. is_some (pairs_of (bytes_of_words rest.now))
+        ≡ is_some (pairs_of (bytes_of_words words.now))) }
     ensures fewer { IfSome result (λ rest. length rest.now < length words.now) }
-    ensures none { IfNone result ((length words.now == 0) ≡ is_some (pairs_of (bytes_of_words words.now))) }
+    ensures none { IfNone result
+        ((length words.now == 0) ≡ is_some (pairs_of (bytes_of_words words.now))) }
 {
     let [option, value, rest @ ..] = words else {
         return None;

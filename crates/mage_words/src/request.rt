@@ -1,3 +1,4 @@
+// What commands are asked for.
 use mage_instr::Limits;
 
 /// What runs the circuits.

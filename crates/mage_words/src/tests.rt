@@ -1,3 +1,4 @@
+// Words that ask for something, with the values that stand by default, and words that don't.
 use super::{Driver, Request, Solo, Stats, WordsFault, read_words};
 use mage_instr::Limits;
 use std::alloc::{AllocError, Global};
