@@ -1,0 +1,6 @@
+pub mod Chains
+mod Freeing
+pub mod Narrow
+mod Tables
+pub mod Turns
+pub mod Walks

@@ -1,0 +1,9 @@
+use Rattle.std.proofs.Common.{rules}
+use Rattle.std.specs.Int.{w8, to_be_bytes}
+use Rattle.mage_file.specs.Formats.{number}
+use Rattle.mage_file.proofs.Adding.{adds}
+use Rattle.mage_file.proofs.writing.put_u8.Goals as goal
+
+pub returns : goal.returns
+unfolding number
+returns c = λ more. adds c.args.out.now.items (to_be_bytes w8 c.args.value) more c.extend_from_slice.new.self.items (search rules)

@@ -1,0 +1,5 @@
+pub mod Codes
+pub mod Rules
+pub mod Formats
+pub mod Grammar
+pub mod Laws

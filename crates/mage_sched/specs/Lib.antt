@@ -1,0 +1,9 @@
+pub mod Reads
+pub mod Slots
+pub mod Schedule
+pub mod Homes
+pub mod Views
+pub mod Rule
+pub mod Issues
+pub mod Turns
+pub mod Scheduled

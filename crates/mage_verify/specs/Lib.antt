@@ -1,0 +1,11 @@
+pub mod Faults
+pub mod Joint
+pub mod Leaving
+pub mod Lefts
+pub mod Literals
+pub mod Parts
+pub mod Range
+pub mod Runs
+pub mod State
+pub mod Tables
+pub mod Turns
