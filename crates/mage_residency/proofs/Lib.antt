@@ -1,0 +1,11 @@
+pub mod Fitting
+pub mod Apart
+pub mod Dirty
+pub mod Frames
+pub mod Doing
+pub mod Coming
+pub mod Kept
+pub mod Carrying
+pub mod Cutting
+pub mod Beside
+pub mod Renaming

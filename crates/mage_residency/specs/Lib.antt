@@ -1,0 +1,4 @@
+pub mod Plain
+pub mod Carried
+pub mod Cut
+pub mod Renamed

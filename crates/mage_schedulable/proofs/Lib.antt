@@ -1,0 +1,4 @@
+pub mod Leaving
+pub mod Loading
+pub mod Entries
+pub mod Turns
