@@ -1,1 +1,4 @@
 pub mod Making
+pub mod Counts
+mod CountAnds
+pub mod AndCounts

@@ -3,7 +3,9 @@
 #![tactic(auto)]
 
 mod driver;
+mod laws;
 mod standing;
 
 pub use driver::Driver;
+pub use laws::ands_are_counted;
 pub use standing::Standing;

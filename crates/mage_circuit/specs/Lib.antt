@@ -1,0 +1,5 @@
+pub mod Results
+pub mod Windows
+pub mod Numbers
+pub mod Tally
+pub mod TallyLaws

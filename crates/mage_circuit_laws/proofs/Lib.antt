@@ -1,0 +1,10 @@
+pub mod Sums
+pub mod Choices
+pub mod Differences
+pub mod Products
+pub mod Quotients
+pub mod Bitwise
+pub mod Shifts
+pub mod Counting
+pub mod Operations
+pub mod InPlain

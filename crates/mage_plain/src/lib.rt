@@ -1,0 +1,6 @@
+//! The driver that computes in plain.
+#![tactic(auto)]
+
+mod plain;
+
+pub use plain::PlainDriver;
