@@ -1,0 +1,2 @@
+pub mod LogStore
+pub mod LogDesk

@@ -1,0 +1,9 @@
+pub mod SlotLemmas
+pub mod SerialLemmas
+pub mod SealLemmas
+pub mod KeptLemmas
+pub mod MoveLemmas
+pub mod SealedLemmas
+pub mod SealedCalls
+pub mod SealedFinishes
+pub mod SealedEnds

@@ -1,0 +1,4 @@
+pub mod Slots
+pub mod SerialPort
+pub mod Seals
+pub mod SealedPort
