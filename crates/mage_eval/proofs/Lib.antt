@@ -1,0 +1,4 @@
+mod Bytes
+mod Colours
+mod Failing
+pub mod PuttingOut

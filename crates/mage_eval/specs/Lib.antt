@@ -1,0 +1,4 @@
+pub mod Reading
+pub mod Rule
+pub mod Lawful
+pub mod Laws

@@ -1,0 +1,3 @@
+pub mod Saying
+mod Failing
+mod Adding

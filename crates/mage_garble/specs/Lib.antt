@@ -1,0 +1,4 @@
+pub mod Sending
+pub mod Rule
+pub mod Lawful
+pub mod Laws

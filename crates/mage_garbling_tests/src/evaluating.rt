@@ -1,0 +1,112 @@
+// The value of the sum of 200 and 100, from its stream and the labels that are dealt.
+ghost use Rattle.std.specs.Prelude.{◌<◌};
+
+use crate::garbling::garbled;
+use crate::sum::run;
+use mage_base::MemSource;
+use mage_eval::EvalDriver;
+use mage_instr::DriverFault;
+use mage_label::{Label, input_label, offset};
+use sha2::{Digest, Sha256};
+use std::alloc::Global;
+use std::process::Abort;
+use std::test::Fail;
+
+// SHA-256 of the dealt labels, by the other program.
+const LABELS: [u8; 32] = [
+    0xeb, 0x22, 0xc1, 0x0e, 0xe7, 0x50, 0x1b, 0x90, 0x85, 0x6b, 0x88, 0xbb, 0x83, 0x25, 0x0a, 0xf1,
+    0xc0, 0x1f, 0x4b, 0x73, 0x85, 0x00, 0xde, 0x8d, 0xe8, 0xe4, 0x37, 0x9d, 0x46, 0x4e, 0x93, 0xed,
+];
+
+// The active labels of the evaluator's 100.
+fn dealt(alloc: Global) -> Result<Vec<Label>, Fail> {
+    let seed = [0; 32];
+    let mut labels = Vec::new(alloc);
+    for i in 0..8u64 {
+        let zero = input_label(&seed, 0, 8 + i);
+        let is_one = 100u64 >> i & 1 == 1;
+        labels.push(if is_one {
+            zero.xor(offset(&seed))
+        } else {
+            zero
+        })?;
+    }
+    Ok(labels)
+}
+
+// What the evaluator makes of a stream.
+fn evaluated(alloc: Global, stream: &[u8]) -> Result<(Result<(), DriverFault>, Vec<u128>), Fail> {
+    let source = MemSource::make(alloc, stream, &[])?;
+    match EvalDriver::make(alloc, 0, dealt(alloc)?, 4, source) {
+        Ok(mut driver) => {
+            let result = run(&mut driver);
+            let (_, outputs) = driver.close();
+            Ok((result, outputs))
+        }
+        Err((_, memory)) => Err(memory.into()),
+    }
+}
+
+// The stream, cut to a length and with one byte changed, is refused.
+fn refused(rt: &impl Abort, alloc: Global, stream: &[u8], fault: DriverFault) -> Result<(), Fail> {
+    let (result, outputs) = evaluated(alloc, stream)?;
+    assert_eq!(rt; result, Err(fault));
+    let kept = if let DriverFault::Long { at: _ } = fault {
+        1
+    } else {
+        0
+    };
+    assert_eq!(rt; outputs.len(), kept);
+    Ok(())
+}
+
+#[test]
+fn the_dealt_labels_of_another_program(rt: HostRuntime) -> Result<(), Fail> {
+    let mut bytes = Vec::new(rt.alloc());
+    for label in &dealt(rt.alloc())? {
+        bytes.extend_from_slice(&label.bytes)?;
+    }
+    assert_eq!(rt; bytes.len(), 128);
+    assert_eq!(rt; Sha256::digest(bytes.as_slice()), LABELS);
+    Ok(())
+}
+
+#[test]
+fn the_value(rt: HostRuntime) -> Result<(), Fail> {
+    let (_, sink) = garbled(rt.alloc(), &[])?;
+    let (result, outputs) = evaluated(rt.alloc(), sink.taken())?;
+    assert!(rt; result.is_ok());
+    assert_eq!(rt; outputs.as_slice(), [44].as_slice());
+    Ok(())
+}
+
+// The front of a stream is refused where it ends.
+fn cut(rt: &impl Abort, alloc: Global, stream: &[u8], count: usize) -> Result<(), Fail> {
+    let front = &stream[..count.min(stream.len())];
+    refused(rt, alloc, front, DriverFault::Short { at: count as u64 })
+}
+
+// A stream with another byte at a place is refused there.
+fn discoloured(
+    rt: &impl Abort,
+    alloc: Global,
+    stream: &mut [u8],
+    place: usize,
+) -> Result<(), Fail> {
+    if place < stream.len() {
+        stream[place] = 2;
+    }
+    refused(rt, alloc, stream, DriverFault::Colour { at: place as u64 })
+}
+
+#[test]
+fn streams_that_are_not_what_is_due(rt: HostRuntime) -> Result<(), Fail> {
+    let alloc = rt.alloc();
+    let (_, sink) = garbled(alloc, &[])?;
+    cut(&rt, alloc, sink.taken(), 359)?;
+    cut(&rt, alloc, sink.taken(), 130)?;
+    let mut stream = Vec::from_slice(alloc, sink.taken())?;
+    stream.push(0)?;
+    refused(&rt, alloc, stream.as_slice(), DriverFault::Long { at: 360 })?;
+    discoloured(&rt, alloc, stream.as_mut_slice(), 352)
+}

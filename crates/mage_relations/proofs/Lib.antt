@@ -1,0 +1,5 @@
+pub mod Keeping
+pub mod EachLemmas
+pub mod Circuits
+pub mod Instructions
+pub mod Runs
