@@ -1,0 +1,7 @@
+pub mod Deeds
+pub mod Settled
+pub mod Flights
+pub mod Through
+pub mod Growing
+pub mod Outputs
+pub mod JointRuns
