@@ -24,7 +24,8 @@ pub struct Reading {
 
 /// The source of a text.
 pub fn read(alloc: Global, text: &[u8]) -> Result<Reading, LangFault>
-    ensures tokens { IfOk result (λ reading. IsOkAnd (tokens_of text.now) (λ tokens. length tokens ≡ reading.tokens)) }
+    ensures tokens { IfOk result (λ reading.
+        IsOkAnd (tokens_of text.now) (λ tokens. length tokens ≡ reading.tokens)) }
     ensures source { IfOk result (λ reading. IsOkAnd (tokens_of text.now)
         (IsSource most_depth reading.source.workers reading.source.body)) }
 {
@@ -38,8 +39,9 @@ pub fn read(alloc: Global, text: &[u8]) -> Result<Reading, LangFault>
 
 /// How many bytes a source is printed as.
 pub fn printed_bytes(alloc: Global, source: &Source) -> Result<usize, Memory>
-    ensures { (tokens : List TokenValue) → IsSource most_depth source.now.workers source.now.body tokens →
-        IfOk result (λ count. length (printed tokens) ≡ count) }
+    ensures { (tokens : List TokenValue)
+        → IsSource most_depth source.now.workers source.now.body tokens
+        → IfOk result (λ count. length (printed tokens) ≡ count) }
 {
     let text = print(alloc, source)?;
     Ok(text.len())
@@ -49,7 +51,8 @@ pub fn printed_bytes(alloc: Global, source: &Source) -> Result<usize, Memory>
 pub fn instructions(alloc: Global, source: &Source) -> Result<usize, LangFault>
     ensures count { IfOk result (λ count. IsOkAnd (unrolled_of source.now.workers source.now.body)
         (λ program. length program.order ≡ count)) }
-    ensures fault { IfErr result (λ fault. Fails fault (unrolled_of source.now.workers source.now.body)) }
+    ensures fault { IfErr result (λ fault.
+        Fails fault (unrolled_of source.now.workers source.now.body)) }
 {
     let program = unroll(alloc, source)?;
     Ok(program.order.len())
