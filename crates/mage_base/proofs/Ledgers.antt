@@ -1,5 +1,5 @@
 -- The stores that a desk in memory handed out and got back.
-use Rattle.std.proofs.Common.{add-one, zero, suc, None, ◌≡◌, ◌<◌, ◌+◌, ℕ, true, false, List, [], ◌∷◌, ◌++◌, length, get_or, take, drop, map, replicate, refl, ap, append_assoc, Contains}
+use Rattle.std.proofs.Common.{add-one, zero, suc, ◌≡◌, ◌<◌, ◌+◌, ℕ, true, false, List, [], ◌∷◌, ◌++◌, length, get_or, take, drop, map, replicate, refl, ap, append_assoc, Contains}
 use Rattle.std.specs.List.{remove}
 use Rattle.std.proofs.lemmas.List.{drop_more, take_more, map-append}
 use Rattle.std.proofs.lemmas.List.Elements.{All-contains, All-map}

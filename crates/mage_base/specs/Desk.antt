@@ -82,7 +82,7 @@ abbrev pub Fetched : Option (List ℕ) → ℕ → Result (Vec ℕ Global) DeskE
 Fetched file limit (Ok bytes) = file ≡ Some bytes.items
 Fetched file limit (Err errors.TooLong) = IsSomeAnd file (λ bytes. limit < length bytes)
 Fetched file limit (Err errors.Fault) = Unit {0}
-Fetched file limit (Err errors.Memory) = Unit {0}
+Fetched file limit (Err errors.Memory) = IsSomeAnd file (λ bytes. length bytes ≤ limit)
 
 -- a steady desk that tells its files finds a name that is there
 abbrev pub Finds : {T : Type 0} → DeskTold → (name : List ℕ) → Result T DeskError → Type 0

@@ -26,19 +26,23 @@ pub trait Desk {
     /// `TooLong` where the file is longer, `Fault` where there is no such file or the desk failed, and `Memory`
     /// where there is none for the bytes.
     fn fetch(&mut self, alloc: Global, name: &str, limit: u64) -> Result<Vec<u8>, DeskError>
-        ensures found { IfSome (tells self.old).files (λ files. Fetched (files name.now) limit result) }
+        ensures found { IfSome (tells self.old).files (λ files.
+            Fetched (files name.now) limit result) }
         ensures within { IfOk result (λ bytes. length bytes.items ≤ limit) }
         ensures cause { FaultCounted (tells self.old).faults (tells self.new).faults result }
         ensures steady { Finds (tells self.old) name.now result }
-        ensures rest { tells self.new ≡ record (tells self.old) { faults = (tells self.new).faults } };
+        ensures rest { tells self.new
+            ≡ record (tells self.old) { faults = (tells self.new).faults } };
 
     /// The file with this name, to be read piece by piece. `Fault` where there is no such file or the desk failed.
     fn open_in(&mut self, alloc: Global, name: &str) -> Result<Self::Input, DeskError>
-        ensures source { IfOk result (λ source. HandsSource (tells self.old) name.now (Self.Input.tells source)) }
+        ensures source { IfOk result (λ source.
+            HandsSource (tells self.old) name.now (Self.Input.tells source)) }
         ensures short { IsNotTooLong result }
         ensures cause { FaultCounted (tells self.old).faults (tells self.new).faults result }
         ensures steady { Finds (tells self.old) name.now result }
-        ensures rest { tells self.new ≡ record (tells self.old) { faults = (tells self.new).faults } };
+        ensures rest { tells self.new
+            ≡ record (tells self.old) { faults = (tells self.new).faults } };
 
     /// Takes a source back. Its faults are counted.
     fn close_in(&mut self, name: &str, source: Self::Input)
@@ -49,7 +53,8 @@ pub trait Desk {
     /// Makes the file with this name empty, to be written with at most `room` bytes. With any answer but Ok no file
     /// changed.
     fn open_out(&mut self, alloc: Global, name: &str, room: u64) -> Result<Self::Output, DeskError>
-        ensures sink { IfOk result (λ sink. HandsSink (tells self.old) room (Self.Output.tells sink)) }
+        ensures sink { IfOk result (λ sink.
+            HandsSink (tells self.old) room (Self.Output.tells sink)) }
         ensures short { IsNotTooLong result }
         ensures cause { FaultCounted (tells self.old).faults (tells self.new).faults result }
         ensures steady { IsTrue (tells self.old).steady → IsNoFault result }
@@ -58,7 +63,8 @@ pub trait Desk {
     /// Takes a sink back: the file is what it took, or after `Failed` a front of that. Its faults are counted.
     fn close_out(&mut self, name: &str, sink: Self::Output) -> Result<(), Failed>
         requires { IfSome (tells self.old).files (λ files. IsSome (files name.now)) }
-        ensures closed { ClosesOut (tells self.old) (tells self.new) name.now (Self.Output.tells sink) result }
+        ensures closed { ClosesOut (tells self.old) (tells self.new) name.now
+            (Self.Output.tells sink) result }
         ensures steady { IsTrue (tells self.old).steady → IsOk result };
 
     /// A store for a shard of a worker, with pages of `page_bytes` bytes each, to which nothing was written yet. On a
@@ -71,23 +77,27 @@ pub trait Desk {
         pages: u32,
         page_bytes: u32,
     ) -> Result<Self::Pages, DeskError>
-        ensures store { IfOk result (λ store. HandsStore (tells self.old) pages page_bytes (Self.Pages.tells store)) }
+        ensures store { IfOk result (λ store.
+            HandsStore (tells self.old) pages page_bytes (Self.Pages.tells store)) }
         ensures short { IsNotTooLong result }
         ensures cause { FaultCounted (tells self.old).faults (tells self.new).faults result }
         ensures steady { IsTrue (tells self.old).steady → IsNoFault result }
-        ensures rest { Lends (tells self.old) (tells self.new) (record { worker = worker; shard = shard }) result };
+        ensures rest { Lends (tells self.old) (tells self.new)
+            (record { worker = worker; shard = shard }) result };
 
     /// Takes a store back. Its counts, and where told its log, are added to those of its worker.
     fn give_store(&mut self, worker: u16, shard: u16, store: Self::Pages)
         requires { Contains (tells self.old).lent (record { worker = worker; shard = shard }) }
-        ensures { tells self.new ≡ after_giving (tells self.old) (record { worker = worker; shard = shard })
+        ensures { tells self.new
+            ≡ after_giving (tells self.old) (record { worker = worker; shard = shard })
             (Self.Pages.tells store) };
 
     /// Says the bytes. After `Failed` some front of them is said.
     fn say(&mut self, bytes: &[u8]) -> Result<(), Failed>
         ensures said { Puts result (tells self.old).said bytes.now (tells self.new).said }
         ensures cause { Counted (tells self.old).faults (tells self.new).faults result }
-        ensures steady { IsTrue (tells self.old).steady → length bytes.now ≤ (tells self.old).room → IsOk result }
+        ensures steady { IsTrue (tells self.old).steady
+            → length bytes.now ≤ (tells self.old).room → IsOk result }
         ensures room { IsTrue (tells self.old).steady
             → OnOk result ((tells self.new).room + length bytes.now ≡ (tells self.old).room) }
         ensures rest { tells self.new ≡ record (tells self.old) {
@@ -103,7 +113,8 @@ pub trait Desk {
         ensures steady { IsTrue (tells self.old).steady
             → length bytes.now ≤ (tells self.old).warn_room → IsOk result }
         ensures room { IsTrue (tells self.old).steady
-            → OnOk result ((tells self.new).warn_room + length bytes.now ≡ (tells self.old).warn_room) }
+            → OnOk result
+            ((tells self.new).warn_room + length bytes.now ≡ (tells self.old).warn_room) }
         ensures rest { tells self.new ≡ record (tells self.old) {
           warned = (tells self.new).warned;
           faults = (tells self.new).faults;

@@ -37,7 +37,8 @@ impl Model for Ledger {
 
     ghost Value = { LedgerState };
 
-    ghost view = { λ ledger. record { lent = map id_of ledger.lent.items; totals = ledger.totals.items } };
+    ghost view = { λ ledger.
+        record { lent = map id_of ledger.lent.items; totals = ledger.totals.items } };
 
     ghost invariant = { λ ledger. Covers ledger.totals.items ledger.lent.items };
 }

@@ -74,7 +74,8 @@ impl MemDesk {
 
     /// Puts a file in, in place of one of that name. After `Memory` nothing changed.
     pub fn add(&mut self, name: &str, bytes: &[u8]) -> Result<(), Memory>
-        ensures file { OnOk result (files_of self.new ≡ with_file (files_of self.old) name.now bytes.now) }
+        ensures file { OnOk result
+            (files_of self.new ≡ with_file (files_of self.old) name.now bytes.now) }
         ensures rest { OnOk result (self.new ≡ record self.old { files = self.new.files }) }
         ensures err { OnErr result (self.new ≡ self.old) }
     {
@@ -166,7 +167,8 @@ impl Desk for MemDesk {
     }
 
     fn open_in(&mut self, alloc: Global, name: &str) -> Result<MemSource, DeskError>
-        ensures source { IfOk result (λ source. HandsSource (desk_told self.old) name.now (source_told source)) }
+        ensures source { IfOk result (λ source.
+            HandsSource (desk_told self.old) name.now (source_told source)) }
         ensures short { IsNotTooLong result }
         ensures cause { FaultCounted self.old.faults self.new.faults result }
         ensures steady { Finds (desk_told self.old) name.now result }
@@ -187,7 +189,8 @@ impl Desk for MemDesk {
     }
 
     fn close_in(&mut self, _name: &str, source: MemSource)
-        ensures { self.new ≡ record self.old { faults = count_after self.old.faults source.faults } }
+        ensures { self.new
+            ≡ record self.old { faults = count_after self.old.faults source.faults } }
     {
         self.count_faults(source.faults());
     }
@@ -198,12 +201,14 @@ impl Desk for MemDesk {
         ensures cause { FaultCounted self.old.faults self.new.faults result }
         ensures steady { IsTrue (desk_told self.old).steady → IsNoFault result }
 
-        ensures made { IfOk result (λ sink. sink ≡ new_sink room (calls_named self.old.fails.outputs name.now)) }
+        ensures made { IfOk result (λ sink.
+            sink ≡ new_sink room (calls_named self.old.fails.outputs name.now)) }
         ensures fault { (result ≡ Err DeskError.Fault) ↔ IsTrue (is_listed self.old.calls) }
         ensures file { OnOk result (files_of self.new ≡ with_file (files_of self.old) name.now []) }
         ensures err { OnErr result (self.new.files ≡ self.old.files) }
         ensures after { self.new
-            ≡ record (after_desk_call self.old (is_listed self.old.calls)) { files = self.new.files } }
+            ≡ record (after_desk_call self.old (is_listed self.old.calls))
+            { files = self.new.files } }
     {
         if self.begin() {
             return Err(DeskError::Fault);
@@ -249,7 +254,8 @@ impl Desk for MemDesk {
         pages: u32,
         page_bytes: u32,
     ) -> Result<MemStore, DeskError>
-        ensures store { IfOk result (λ store. HandsStore (desk_told self.old) pages page_bytes (store_told store)) }
+        ensures store { IfOk result (λ store.
+            HandsStore (desk_told self.old) pages page_bytes (store_told store)) }
         ensures short { IsNotTooLong result }
         ensures cause { FaultCounted self.old.faults self.new.faults result }
         ensures steady { IsTrue (desk_told self.old).steady → IsNoFault result }
@@ -262,7 +268,8 @@ impl Desk for MemDesk {
         ensures err { OnErr result (self.new.ledger.lent ≡ self.old.ledger.lent) }
         ensures returned { returned_in self.new.ledger.totals ≡ returned_in self.old.ledger.totals }
         ensures after { self.new
-            ≡ record (after_desk_call self.old (is_listed self.old.calls)) { ledger = self.new.ledger } }
+            ≡ record (after_desk_call self.old (is_listed self.old.calls))
+            { ledger = self.new.ledger } }
     {
         if self.begin() {
             return Err(DeskError::Fault);
@@ -280,7 +287,8 @@ impl Desk for MemDesk {
     fn give_store(&mut self, worker: u16, shard: u16, store: MemStore)
         requires { Contains self.old.ledger.lent (record { worker = worker; shard = shard }) }
         ensures told { desk_told self.new
-            ≡ after_giving (desk_told self.old) (record { worker = worker; shard = shard }) (store_told store) }
+            ≡ after_giving (desk_told self.old) (record { worker = worker; shard = shard })
+            (store_told store) }
         ensures after { self.new ≡ record self.old { ledger = self.new.ledger } }
     {
         self.ledger.give(worker, shard, store.counts());
@@ -288,7 +296,8 @@ impl Desk for MemDesk {
 
     fn say(&mut self, bytes: &[u8]) -> Result<(), Failed>
         ensures cause { Counted self.old.faults self.new.faults result }
-        ensures steady { IsTrue (desk_told self.old).steady → length bytes.now ≤ (desk_told self.old).room
+        ensures steady { IsTrue (desk_told self.old).steady
+            → length bytes.now ≤ (desk_told self.old).room
             → IsOk result }
 
         ensures failed { IsErr result ↔ IsTrue (cannot_say self.old bytes.now) }

@@ -26,7 +26,8 @@ impl Model for MemSink {
 
     ghost Value = { SinkState };
 
-    ghost view = { λ sink. record { taken = sink.taken; faults = sink.faults; calls = sink.calls } };
+    ghost view = { λ sink.
+        record { taken = sink.taken; faults = sink.faults; calls = sink.calls } };
 }
 
 impl MemSink {
@@ -73,10 +74,12 @@ impl Sink for MemSink {
     fn put(&mut self, bytes: &[u8]) -> Result<(), Failed>
         ensures puts { Puts result (sink_told self.old).taken bytes.now (sink_told self.new).taken }
         ensures cause { Counted self.old.faults self.new.faults result }
-        ensures steady { IsTrue (sink_told self.old).steady → length bytes.now ≤ (sink_told self.old).room
+        ensures steady { IsTrue (sink_told self.old).steady
+            → length bytes.now ≤ (sink_told self.old).room
             → IsOk result }
         ensures room { IsTrue (sink_told self.old).steady
-            → OnOk result ((sink_told self.new).room + length bytes.now ≡ (sink_told self.old).room) }
+            → OnOk result
+            ((sink_told self.new).room + length bytes.now ≡ (sink_told self.old).room) }
 
         ensures failed { IsErr result ↔ IsTrue (cannot_put self.old bytes.now) }
         ensures after { self.new ≡ after_put self.old bytes.now }

@@ -69,7 +69,8 @@ impl Source for MemSource {
 
     fn take(&mut self, into: &mut [u8]) -> Result<usize, Failed>
         ensures within { IfOk result (λ count. count ≤ length into.new) }
-        ensures takes { Takes (source_told self.old).left (source_told self.new).left into.new result }
+        ensures takes { Takes (source_told self.old).left (source_told self.new).left into.new
+            result }
         ensures cause { Counted self.old.faults self.new.faults result }
         ensures steady { IsTrue (source_told self.old).steady → IsOk result }
 

@@ -40,7 +40,8 @@ impl Model for MemStore {
       calls = store.calls;
     } };
 
-    ghost invariant = { λ store. All (λ page. length page.items ≡ store.page_bytes) store.pages.items };
+    ghost invariant = { λ store.
+        All (λ page. length page.items ≡ store.page_bytes) store.pages.items };
 }
 
 impl MemStore {
@@ -66,7 +67,11 @@ impl MemStore {
 
     /// How many pages were read and written, and how often a call failed.
     pub fn counts(&self) -> StoreCounts
-        ensures { result ≡ record { reads = self.now.reads; writes = self.now.writes; faults = self.now.faults } }
+        ensures { result ≡ record {
+          reads = self.now.reads;
+          writes = self.now.writes;
+          faults = self.now.faults;
+        } }
     {
         StoreCounts {
             reads: self.reads,
@@ -78,8 +83,10 @@ impl MemStore {
 
 // So many pages of zeros.
 fn zero_pages(alloc: Global, count: u32, page_bytes: usize) -> Result<Vec<Vec<u8>>, Memory>
-    ensures pages { IfOk result (λ pages. map (λ page. page.items) pages.items ≡ replicate count (zero_page page_bytes)) }
-    ensures lengths { IfOk result (λ pages. All (λ page. length page.items ≡ page_bytes) pages.items) }
+    ensures pages { IfOk result (λ pages.
+        map (λ page. page.items) pages.items ≡ replicate count (zero_page page_bytes)) }
+    ensures lengths { IfOk result (λ pages.
+        All (λ page. length page.items ≡ page_bytes) pages.items) }
 {
     let mut pages = Vec::with_capacity(alloc, count as usize)?;
     for _ in 0..count {
@@ -108,7 +115,8 @@ impl Store for MemStore {
         requires { length into.old ≡ self.old.page_bytes }
         ensures reads { Reads (store_told self.old) (store_told self.new) page into.new result }
         ensures cause { Counted self.old.faults self.new.faults result }
-        ensures steady { IsTrue (store_told self.old).steady → page < (store_told self.old).page_count
+        ensures steady { IsTrue (store_told self.old).steady
+            → page < (store_told self.old).page_count
             → (store_told self.old).reads < top → IsOk result }
 
         ensures failed { IsErr result ↔ IsTrue (cannot_move self.old page self.old.reads) }
@@ -128,7 +136,8 @@ impl Store for MemStore {
         requires { length from.now ≡ self.old.page_bytes }
         ensures writes { Writes (store_told self.old) (store_told self.new) page from.now result }
         ensures cause { Counted self.old.faults self.new.faults result }
-        ensures steady { IsTrue (store_told self.old).steady → page < (store_told self.old).page_count
+        ensures steady { IsTrue (store_told self.old).steady
+            → page < (store_told self.old).page_count
             → (store_told self.old).writes < top → IsOk result }
 
         ensures failed { IsErr result ↔ IsTrue (cannot_move self.old page self.old.writes) }

@@ -13,7 +13,8 @@ pub trait Sink {
     fn put(&mut self, bytes: &[u8]) -> Result<(), Failed>
         ensures puts { Puts result (tells self.old).taken bytes.now (tells self.new).taken }
         ensures cause { Counted (tells self.old).faults (tells self.new).faults result }
-        ensures steady { IsTrue (tells self.old).steady → length bytes.now ≤ (tells self.old).room → IsOk result }
+        ensures steady { IsTrue (tells self.old).steady
+            → length bytes.now ≤ (tells self.old).room → IsOk result }
         ensures room { IsTrue (tells self.old).steady
             → OnOk result ((tells self.new).room + length bytes.now ≡ (tells self.old).room) }
         ensures rest { tells self.new ≡ record (tells self.old) {

@@ -19,14 +19,16 @@ pub fn laws_of_bits()
 pub fn laws_of_modular_arithmetic()
     ensures arithmetic { (width a b : ℕ) → (add_mod width a b < 2 ^ width)
         × (sub_mod width a b < 2 ^ width) × (mul_mod width a b < 2 ^ width) }
-    ensures bitwise { (width a b : ℕ) → a < 2 ^ width → b < 2 ^ width → (and_mod width a b < 2 ^ width)
-        × (or_mod width a b < 2 ^ width) × (xor_mod width a b < 2 ^ width) × (not_mod width a < 2 ^ width) }
+    ensures bitwise { (width a b : ℕ) → a < 2 ^ width → b < 2 ^ width
+        → (and_mod width a b < 2 ^ width) × (or_mod width a b < 2 ^ width)
+        × (xor_mod width a b < 2 ^ width) × (not_mod width a < 2 ^ width) }
     ensures tests { (width a b : ℕ) → (eq_mod width a b < 2) × (lt_mod width a b < 2) }
     ensures shifts { (width a amount : ℕ) → a < 2 ^ width
         → (shl_mod width a amount < 2 ^ width) × (shr_mod width a amount < 2 ^ width) }
     ensures division { (width a b : ℕ) → a < 2 ^ width
         → (div_mod width a b < 2 ^ width) × (rem_mod width a b < 2 ^ width) }
-    ensures counts { (width a b : ℕ) → a < 2 ^ width → b < 2 ^ width → (count_mod width a < 2 ^ width)
+    ensures counts { (width a b : ℕ) → a < 2 ^ width → b < 2 ^ width
+        → (count_mod width a < 2 ^ width)
         × (min_mod width a b < 2 ^ width) × (max_mod width a b < 2 ^ width) }
     ensures resized { (width a : ℕ) → resize_mod width a < 2 ^ width }
     ensures difference { (width a b : ℕ) → a < 2 ^ width → b < 2 ^ width

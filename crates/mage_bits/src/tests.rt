@@ -1,3 +1,4 @@
+// Bits of numbers, and numbers of bits.
 use super::*;
 use mage_base::Memory;
 

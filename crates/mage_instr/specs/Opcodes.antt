@@ -8,6 +8,10 @@ use Rattle.mage_instr.specs.declared.op.Op.TheVariants as op
 abbrev pub greatest_width : ℕ
 greatest_width = 128
 
+-- a width that a value may have
+abbrev pub IsWidth : ℕ → Type 0
+IsWidth width = (1 ≤ width) × (width ≤ greatest_width)
+
 -- how many workers a program has at most
 abbrev pub most_workers : ℕ
 most_workers = 16

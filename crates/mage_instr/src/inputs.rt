@@ -1,6 +1,7 @@
 // The widths of the input values of a program.
 ghost use Rattle.std.specs.Prelude.{◌≡◌, ◌≤◌, ◌++◌, ◌∷◌, List, All, map, IfOk, OnOk};
 ghost use Rattle.mage_instr.specs.declared.instr.Instr.{Instr};
+ghost use Rattle.mage_instr.specs.Opcodes.{IsWidth};
 ghost use Rattle.mage_instr.specs.Sound.{IsSound};
 ghost use Rattle.mage_instr.specs.Inputs.{imm_of, is_input_of, widths_in, input_widths_of};
 
@@ -29,7 +30,7 @@ fn is_input_of(instr: &Instr, whose: Party) -> bool
 fn widths_of(alloc: Global, instrs: &[Instr], whose: Party) -> Result<Vec<u8>, Memory>
     requires { IsSound instrs.now }
     ensures widths { IfOk result (λ own. own.items ≡ widths_in whose instrs.now) }
-    ensures in_range { IfOk result (λ own. All (λ width. (1 ≤ width) × (width ≤ 128)) own.items) }
+    ensures in_range { IfOk result (λ own. All IsWidth own.items) }
 {
     let mut own = Vec::new(alloc);
     for instr in instrs {
@@ -42,9 +43,8 @@ fn widths_of(alloc: Global, instrs: &[Instr], whose: Party) -> Result<Vec<u8>, M
 fn add_width(own: &mut Vec<u8>, instr: &Instr, whose: Party) -> Result<(), Memory>
     ensures in_front { (others : List Instr) → OnOk result (own.new.items ++ widths_in whose others
         ≡ own.old.items ++ widths_in whose (instr.now ∷ others)) }
-    ensures in_range { OnOk result ((1 ≤ instr.now.width) × (instr.now.width ≤ 128)
-        → All (λ width. (1 ≤ width) × (width ≤ 128)) own.old.items
-        → All (λ width. (1 ≤ width) × (width ≤ 128)) own.new.items) }
+    ensures in_range { OnOk result
+        (IsWidth instr.now.width → All IsWidth own.old.items → All IsWidth own.new.items) }
 {
     if is_input_of(instr, whose) {
         own.push(instr.width)?;
@@ -56,8 +56,9 @@ fn add_width(own: &mut Vec<u8>, instr: &Instr, whose: Party) -> Result<(), Memor
 /// `Memory` where there is none for the list.
 pub fn input_widths(alloc: Global, program: &Program, party: Party) -> Result<Vec<Vec<u8>>, Memory>
     requires { All IsSound program.now.workers }
-    ensures widths { IfOk result (λ widths. map (λ own. own.items) widths.items ≡ input_widths_of party program.now) }
-    ensures in_range { IfOk result (λ widths. All (λ own. All (λ width. (1 ≤ width) × (width ≤ 128)) own.items) widths.items) }
+    ensures widths { IfOk result (λ widths.
+        map (λ own. own.items) widths.items ≡ input_widths_of party program.now) }
+    ensures in_range { IfOk result (λ widths. All (λ own. All IsWidth own.items) widths.items) }
 {
     let mut widths = Vec::new(alloc);
     for instrs in program.workers.as_slice() {

@@ -56,7 +56,8 @@ impl<'a, V: Drop> Scopes<'a, V> {
     /// Declares the name in the innermost scope, in place of one there that is spelled so. `Memory` where there is
     /// none for it; then nothing changes. Where there is no scope, the value is dropped.
     pub fn declare(&mut self, name: &'a [u8], value: V) -> Result<(), Memory>
-        ensures ok { OnOk result (scopes_of self.new ≡ with_name (scopes_of self.old) name.now value) }
+        ensures ok { OnOk result
+            (scopes_of self.new ≡ with_name (scopes_of self.old) name.now value) }
         ensures err { OnErr result (scopes_of self.new ≡ scopes_of self.old) }
     {
         let Some(map) = self.maps.last_mut() else {

@@ -1,3 +1,4 @@
+// What names stand for, in one scope and in several.
 use super::*;
 
 fn values(alloc: Global, numbers: &[u32]) -> Result<Vec<u32>, Memory> {

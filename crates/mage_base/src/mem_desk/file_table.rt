@@ -44,7 +44,8 @@ impl FileTable {
 
     /// Puts a file in, in place of one of that name.
     pub(crate) fn put(&mut self, alloc: Global, name: &str, bytes: &[u8]) -> Result<(), Memory>
-        ensures ok { OnOk result (files_in self.new ≡ with_file (files_in self.old) name.now bytes.now) }
+        ensures ok { OnOk result
+            (files_in self.new ≡ with_file (files_in self.old) name.now bytes.now) }
         ensures err { OnErr result (self.new ≡ self.old) }
     {
         let key = String::from_str(alloc, name)?;

@@ -1,3 +1,4 @@
+// A desk in memory: what its calls give, and where they fail.
 ghost use Rattle.std.specs.Prelude.{◌≡◌};
 
 use super::*;

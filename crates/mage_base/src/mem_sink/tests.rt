@@ -1,3 +1,4 @@
+// A sink in memory takes what fits.
 use super::*;
 use std::process::Abort;
 use std::test::Fail;

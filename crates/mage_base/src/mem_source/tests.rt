@@ -1,3 +1,4 @@
+// A source in memory gives its bytes in order.
 use super::*;
 use std::process::Abort;
 use std::test::Fail;

@@ -1,3 +1,4 @@
+// A store in memory keeps its pages, and counts.
 use super::*;
 use std::process::Abort;
 use std::test::Fail;

@@ -1,3 +1,4 @@
+// The table of opcodes, row by row.
 use super::*;
 use std::test::Fail;
 
