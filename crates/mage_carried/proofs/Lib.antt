@@ -1,0 +1,17 @@
+pub mod Pieces
+pub mod Reading
+pub mod Relation
+pub mod Transfers
+pub mod Jobs
+pub mod Standing
+pub mod Computing
+pub mod Joining
+pub mod Handing
+pub mod Transferring
+pub mod Emitting
+pub mod Ending
+pub mod Starting
+pub mod Orderliness
+pub mod Lengths
+pub mod Wired
+pub mod Carried

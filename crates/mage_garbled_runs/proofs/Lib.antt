@@ -1,0 +1,2 @@
+pub mod Garbled
+pub mod Meant
