@@ -149,8 +149,6 @@ impl Desk for MemDesk {
         ensures steady { Finds (desk_told self.old) name.now result }
 
         ensures fault { (result ≡ Err DeskError.Fault) ↔ IsTrue (cannot_find self.old name.now) }
-        ensures memory { result ≡ Err DeskError.Memory
-            → IsSomeAnd (files_of self.old name.now) (λ bytes. length bytes ≤ limit) }
         ensures after { self.new ≡ after_desk_call self.old (cannot_find self.old name.now) }
     {
         if self.begin() {
