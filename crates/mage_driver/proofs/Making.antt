@@ -1,9 +1,9 @@
 -- How circuits that were made in part go on. Crates that make circuits cite these.
-use Rattle.std.proofs.Common.{◌≡◌, List, [], ◌∷◌, ◌++◌, Ok, inl, inr, refl, ap, sym, subst}
+use Rattle.std.proofs.Common.{◌≡◌, ◌∙◌, List, [], ◌∷◌, ◌++◌, IsTrue, Ok, inl, inr, refl, ap, sym, subst}
 use Rattle.mage_instr.specs.declared.fault.DriverFault.{DriverFault}
 use Rattle.mage_driver.specs.declared.standing.Standing.TheVariants as standing
 use Rattle.mage_driver.specs.Rules.{Rules}
-use Rattle.mage_driver.specs.Calls.{Told, And, Call, Asked, NoneIsDue, SomeStops, Fell}
+use Rattle.mage_driver.specs.Calls.{Told, And, Call, Asked, NoneIsDue, SomeStops, Fell, RoseFor}
 use Rattle.mage_driver.specs.Circuits.{Circuit, given, followed, formed, anded, inverted, folded, Went}
 
 module _ {W : Type 0} (rules : Rules W) where
@@ -25,36 +25,56 @@ module _ {W : Type 0} (rules : Rules W) where
 
   -- nothing was made
   pub went_given : {X : Type 0} (x : X) (told : Told rules.State) → told.standing ≡ standing.Running → Went rules (given rules x) told told x
-  went_given x told runs = record { passed = tt; told = ap (λ s. record { state = told.state; standing = s; faults = told.faults }) runs; wires = refl }
+  went_given x told runs = record { passed = λ t. tt; state = λ t. refl; wires = λ t. refl; rest = ap (λ s. record told { standing = s }) runs }
 
   pub went_inverted : (a : W) (told : Told rules.State) → told.standing ≡ standing.Running → Went rules (inverted rules a) told told (rules.not told.state a)
-  went_inverted a told runs = record { passed = tt; told = ap (λ s. record { state = told.state; standing = s; faults = told.faults }) runs; wires = refl }
+  went_inverted a told runs = record { passed = λ t. tt; state = λ t. refl; wires = λ t. refl; rest = ap (λ s. record told { standing = s }) runs }
 
-  pub went_anded : (a b wire : W) (before after : Told rules.State) → Asked rules {X = W} (And a b) before after (Ok wire) → wire ≡ (rules.and before.state a b).1 → Went rules (anded rules a b) before after wire
-  went_anded a b wire before after asked same = record { passed = asked.0; told = asked.1; wires = same }
+  pub went_anded : (a b wire : W) (before after : Told rules.State) → Asked rules {X = W} (And a b) before after (Ok wire) → (IsTrue before.told → wire ≡ (rules.and before.state a b).1) → Went rules (anded rules a b) before after wire
+  went_anded a b wire before after asked same = record { passed = asked.passed; state = asked.state; wires = same; rest = asked.rest }
 
   pub went_formed : {X Y : Type 0} (form : X → Y) (circuit : Circuit rules X) (before after : Told rules.State) (x : X) → Went rules circuit before after x → Went rules (formed rules form circuit) before after (form x)
-  went_formed form circuit before after x went = record { passed = went.passed; told = went.told; wires = ap form went.wires }
+  went_formed form circuit before after x went = record { passed = went.passed; state = went.state; wires = λ t. ap form (went.wires t); rest = went.rest }
+
+  -- what a driver tells, it tells after a circuit too
+  still_told : {X : Type 0} (circuit : Circuit rules X) (before after : Told rules.State) (x : X) → Went rules circuit before after x → IsTrue before.told → IsTrue after.told
+  still_told circuit before after x went told = subst (λ t. IsTrue t) (sym (ap (λ (t : Told rules.State). t.told) went.rest)) told
 
   pub went_followed : {X Y : Type 0} (first : Circuit rules X) (next : X → Circuit rules Y) (before mid after : Told rules.State) (x : X) (y : Y) →
       Went rules first before mid x → Went rules (next x) mid after y → Went rules (followed rules first next) before after y
   went_followed first next before mid after x y went went' =
-      subst (λ m. Went rules (next x) m after y → Went rules (followed rules first next) before after y) (sym went.told)
-      (subst (λ v. Went rules (next v) (record { state = (first before.state).state; standing = standing.Running; faults = before.faults }) after y → Went rules (followed rules first next) before after y) (sym went.wires)
-      (λ then. record { passed = none_due-append (first before.state).calls _ went.passed then.passed; told = then.told; wires = then.wires }))
-      went'
+      let tells = still_told first before mid x went in
+      record {
+        passed = λ t. none_due-append (first before.state).calls _ (went.passed t)
+            (subst (λ s. NoneIsDue rules ((next (first before.state).wires s).calls)) (went.state t)
+            (subst (λ v. NoneIsDue rules ((next v mid.state).calls)) (went.wires t) (went'.passed (tells t))));
+        state = λ t. went'.state (tells t) ∙ ap (λ v. (next v mid.state).state) (went.wires t)
+            ∙ ap (λ s. (next (first before.state).wires s).state) (went.state t);
+        wires = λ t. went'.wires (tells t) ∙ ap (λ v. (next v mid.state).wires) (went.wires t)
+            ∙ ap (λ s. (next (first before.state).wires s).wires) (went.state t);
+        rest = went'.rest ∙ ap (λ (m : Told rules.State). record m { state = after.state; standing = standing.Running }) went.rest;
+      }
 
   pub fell_first : {X Y : Type 0} (first : Circuit rules X) (next : X → Circuit rules Y) (before after : Told rules.State) (f : DriverFault) →
       FellIn first before after f → FellIn (followed rules first next) before after f
-  fell_first first next before after f fell = record { stopped = some_stops-left (first before.state).calls _ f after.state fell.stopped; failed = fell.failed; counted = fell.counted }
+  fell_first first next before after f fell = record {
+    stopped = λ t. some_stops-left (first before.state).calls _ f after.state (fell.stopped t);
+    failed = fell.failed;
+    counted = fell.counted;
+    told = fell.told;
+  }
 
   pub fell_next : {X Y : Type 0} (first : Circuit rules X) (next : X → Circuit rules Y) (before mid after : Told rules.State) (x : X) (f : DriverFault) →
       Went rules first before mid x → FellIn (next x) mid after f → FellIn (followed rules first next) before after f
-  fell_next first next before mid after x f went fell' =
-      subst (λ m. FellIn (next x) m after f → FellIn (followed rules first next) before after f) (sym went.told)
-      (subst (λ v. FellIn (next v) (record { state = (first before.state).state; standing = standing.Running; faults = before.faults }) after f → FellIn (followed rules first next) before after f) (sym went.wires)
-      (λ fell. record { stopped = some_stops-right (first before.state).calls _ f after.state fell.stopped; failed = fell.failed; counted = fell.counted }))
-      fell'
+  fell_next first next before mid after x f went fell' = record {
+    stopped = λ t. some_stops-right (first before.state).calls _ f after.state
+        (subst (λ s. SomeStops rules ((next (first before.state).wires s).calls) f after.state) (went.state t)
+        (subst (λ v. SomeStops rules ((next v mid.state).calls) f after.state) (went.wires t)
+        (fell'.stopped (still_told first before mid x went t))));
+    failed = fell'.failed;
+    counted = subst (λ n. RoseFor f n after.faults) (ap (λ (t : Told rules.State). t.faults) went.rest) fell'.counted;
+    told = fell'.told ∙ ap (λ (t : Told rules.State). t.told) went.rest;
+  }
 
   pub went_to : {X : Type 0} (circuit : Circuit rules X) (before after : Told rules.State) (x y : X) → Went rules circuit before after x → x ≡ y → Went rules circuit before after y
   went_to circuit before after x y went same = subst (λ v. Went rules circuit before after v) same went
@@ -70,7 +90,7 @@ module _ {W : Type 0} (rules : Rules W) where
 
   -- a driver that went runs
   pub went_runs : {X : Type 0} (circuit : Circuit rules X) (before after : Told rules.State) (x : X) → Went rules circuit before after x → after.standing ≡ standing.Running
-  went_runs circuit before after x went = ap (λ (t : Told rules.State). t.standing) went.told
+  went_runs circuit before after x went = ap (λ (t : Told rules.State). t.standing) went.rest
 
   -- A fold that began somewhere has come to these wires, with these items left.
   pub record Goes {X I : Type 0} (step : X → I → Circuit rules X) (start : X) (before : Told rules.State) (items : List I) (now : X) (told : Told rules.State) (left : List I) : Type 0 where

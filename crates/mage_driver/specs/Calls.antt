@@ -1,5 +1,5 @@
 -- Calls of a driver in a row, and what they leave in it.
-use Rattle.std.specs.Prelude.{◌≡◌, ◌≤◌, ℕ, List, [], ◌∷◌, ◌⊎◌, None, Result, Ok, Err}
+use Rattle.std.specs.Prelude.{◌≡◌, ◌≤◌, ℕ, List, [], ◌∷◌, ◌⊎◌, Bool, IsTrue, None, Result, Ok, Err}
 use Rattle.mage_base.specs.Faults.{Rose}
 use Rattle.mage_instr.specs.declared.fault.DriverFault.{DriverFault}
 use Rattle.mage_instr.specs.declared.fault.DriverFault.TheVariants as fault
@@ -15,6 +15,9 @@ pub record Told (S : Type 0) : Type 0 where
   pub standing : Standing
   -- how often its sources and sinks have failed
   pub faults : ℕ
+  -- whether its sources tell what they have left, and its sinks what they took; where they don't, nothing
+  -- is known of the state that a call leaves
+  pub told : Bool
 
 -- what a driver is asked
 pub data Ask (W : Type 0) : Type 0 where
@@ -68,19 +71,22 @@ module _ {W : Type 0} (rules : Rules W) where
   -- the driver stands at a fault that one of the calls answered
   pub record Fell (calls : List (Call rules.State W)) (before : Told rules.State) (f : DriverFault)
       (after : Told rules.State) : Type 0 where
-    pub stopped : SomeStops calls f after.state
+    pub stopped : IsTrue before.told → SomeStops calls f after.state
     pub failed : after.standing ≡ standing.Failed f
     pub counted : RoseFor f before.faults after.faults
+    pub told : after.told ≡ before.told
 
   abbrev pub call_of : rules.State → Ask W → Call rules.State W
   call_of state ask = record { state = state; ask = ask }
 
+  -- a call was answered Ok: where the state is told, no fault was due, and it is the one to be reached
+  pub record Answered (ask : Ask W) (before after : Told rules.State) : Type 0 where
+    pub passed : IsTrue before.told → NoneIsDue (call_of before.state ask ∷ [])
+    pub state : IsTrue before.told → after.state ≡ reached before.state ask
+    pub rest : after ≡ record before { state = after.state; standing = standing_after ask }
+
   -- what a single call leaves in a driver
   abbrev pub Asked : {X : Type 0} → Ask W → (before after : Told rules.State) →
       Result X DriverFault → Type 0
-  Asked ask before after (Ok _) = NoneIsDue (call_of before.state ask ∷ []) × (after ≡ record {
-    state = reached before.state ask;
-    standing = standing_after ask;
-    faults = before.faults;
-  })
+  Asked ask before after (Ok _) = Answered ask before after
   Asked ask before after (Err f) = Fell (call_of before.state ask ∷ []) before f after

@@ -1,5 +1,5 @@
 -- Circuits over the rules of any driver: what they are put together from.
-use Rattle.std.specs.Prelude.{◌≡◌, ◌-◌, List, [], ◌∷◌, ◌++◌, length, take, drop, Result, Ok, Err}
+use Rattle.std.specs.Prelude.{◌≡◌, ◌-◌, List, [], ◌∷◌, ◌++◌, length, take, drop, IsTrue, Result, Ok, Err}
 use Rattle.mage_instr.specs.declared.fault.DriverFault.{DriverFault}
 use Rattle.mage_driver.specs.declared.standing.Standing.TheVariants as standing
 use Rattle.mage_driver.specs.Rules.{Rules}
@@ -63,13 +63,10 @@ module _ {W : Type 0} (rules : Rules W) where
   -- the driver made all of a circuit, from one moment to another, and these are the wires
   pub record Went {X : Type 0} (circuit : Circuit X) (before after : Told rules.State) (found : X) :
       Type 0 where
-    pub passed : NoneIsDue rules (circuit before.state).calls
-    pub told : after ≡ record {
-      state = (circuit before.state).state;
-      standing = standing.Running;
-      faults = before.faults;
-    }
-    pub wires : found ≡ (circuit before.state).wires
+    pub passed : IsTrue before.told → NoneIsDue rules (circuit before.state).calls
+    pub state : IsTrue before.told → after.state ≡ (circuit before.state).state
+    pub wires : IsTrue before.told → found ≡ (circuit before.state).wires
+    pub rest : after ≡ record before { state = after.state; standing = standing.Running }
 
   -- what a circuit leaves in a driver: it went, or it fell at one of the circuit's calls; and which
   -- wires it found, in terms of what is answered

@@ -1,5 +1,5 @@
 // Whoever makes gates.
-ghost use Rattle.std.specs.Prelude.{◌≡◌, ◌≤◌, ℕ, Bool, length, IfOk, OnOk};
+ghost use Rattle.std.specs.Prelude.{◌≡◌, ◌≤◌, ℕ, Bool, IsTrue, length, IfOk, OnOk};
 ghost use Rattle.mage_instr.specs.Opcodes.{greatest_width};
 ghost use Rattle.mage_driver.specs.declared.standing.Standing.TheVariants as standing;
 ghost use Rattle.mage_driver.specs.Rules.{Rules, AreLawful};
@@ -13,6 +13,9 @@ use mage_instr::{DriverFault, Party};
 /// Only a driver that runs may be called: it runs at first, and no more once `finish` is answered Ok or any call a fault. A
 /// fault of the source or the sink of a stream is answered only where the count of their faults rose, or stands at its
 /// greatest value, and this count rises in no call that is answered Ok.
+///
+/// Over a source or a sink that doesn't tell what it holds, as over files of the system, nothing is said of the state and the
+/// wires that a call leaves: only how the driver stands and what it counted.
 pub trait Driver {
     type Wire: Copy + Send;
 
@@ -29,8 +32,10 @@ pub trait Driver {
     fn input(&mut self, party: Party, into: &mut [Self::Wire]) -> Result<(), DriverFault>
         requires running { (tells self.old).standing ≡ standing.Running }
         requires few { length into.old ≤ greatest_width }
-        ensures call { Asked rules (Input party (length into.old)) (tells self.old) (tells self.new) result }
-        ensures wires { OnOk result (into.new ≡ (rules.input (tells self.old).state party (length into.old)).1) };
+        ensures call { Asked rules (Input party (length into.old))
+            (tells self.old) (tells self.new) result }
+        ensures wires { OnOk result (IsTrue (tells self.old).told
+            → into.new ≡ (rules.input (tells self.old).state party (length into.old)).1) };
 
     /// The wire of a bit that everybody knows.
     fn constant(&self, bit: bool) -> Self::Wire
@@ -48,7 +53,8 @@ pub trait Driver {
     fn and(&mut self, a: Self::Wire, b: Self::Wire) -> Result<Self::Wire, DriverFault>
         requires { (tells self.old).standing ≡ standing.Running }
         ensures call { Asked rules (And a b) (tells self.old) (tells self.new) result }
-        ensures wire { IfOk result (λ wire. wire ≡ (rules.and (tells self.old).state a b).1) };
+        ensures wire { IfOk result (λ wire. IsTrue (tells self.old).told
+            → wire ≡ (rules.and (tells self.old).state a b).1) };
 
     /// Puts out the value of these wires, lowest first.
     fn output(&mut self, wires: &[Self::Wire]) -> Result<(), DriverFault>
