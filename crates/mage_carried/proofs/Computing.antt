@@ -218,7 +218,7 @@ module _ {W : Type 0} (rules : Rules W) (lawful : AreLawful rules) (fine : rules
           let b = is_operand values h.w next.1 engine.bank worker.state.slots worker.state.pages job i 1 h.follows d in
           let c = is_operand values h.w next.1 engine.bank worker.state.slots worker.state.pages job i 2 h.follows d in
           let given = makes.made i.op i.width i.imm (value_of values (arg_of i 0)) (value_of values (arg_of i 1))
-              (value_of values (arg_of i 2)) driver h.is_fine a b c in (
+          (value_of values (arg_of i 2)) driver h.is_fine a b c in (
             after,
             ap (λ o. core.or_stops (core.act_in core.served_at_once (doing_at rules plan.limits.page o engine) worker.state))
                 (stands_at rules lawful fine plan n instrs store values driver calls (entry.Do job) rest worker h)
