@@ -1,1 +1,4 @@
 pub mod Orderliness
+pub mod Moving
+pub mod Order
+pub mod Ending

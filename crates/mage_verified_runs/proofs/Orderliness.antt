@@ -30,7 +30,7 @@ Match state flights = (s : ℕ) → flight_of (state.slot s) ≡ flights s
 abbrev Bounded : (buffer : ℕ) → State → Type 0
 Bounded buffer state = (s : ℕ) → buffer ≤ s → state.slot s ≡ does.Idle
 
-same_test : (a b : ℕ) → nat_eq a b ≡ nat_eq b a
+pub same_test : (a b : ℕ) → nat_eq a b ≡ nat_eq b a
 same_test a b = go (nat_eq a b) (nat_eq b a) refl refl
   where
     go : (x y : Bool) → nat_eq a b ≡ x → nat_eq b a ≡ y → nat_eq a b ≡ nat_eq b a

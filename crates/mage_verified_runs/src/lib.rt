@@ -3,4 +3,7 @@
 
 mod laws;
 
-pub use laws::verified_programs_are_orderly;
+pub use laws::{
+    joint_runs_of_verified_programs_end, verified_programs_are_orderly,
+    verified_programs_run_as_together,
+};
