@@ -1,6 +1,6 @@
 // What the words ask for.
 ghost use Rattle.std.specs.Prelude.{IfSome, IfOk};
-ghost use Rattle.mage_place.specs.Places.{IsPageSize};
+ghost use Rattle.mage_instr.specs.Limits.{IsPageSize};
 
 use mage_base::Memory;
 use std::alloc::{AllocError, AllocFailed};

@@ -1,5 +1,5 @@
 // What is printed of a program.
-ghost use Rattle.mage_place.specs.Places.{IsPageSize};
+ghost use Rattle.mage_instr.specs.Limits.{IsPageSize};
 
 use crate::job::{Job, Lives};
 use crate::lists::{long_lived, short_lived};

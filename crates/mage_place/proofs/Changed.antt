@@ -8,7 +8,7 @@ use Rattle.std.specs.BTreeMap.{is_at}
 use Rattle.std.proofs.lemmas.Grind.{common_steps}
 use Rattle.mage_place.specs.declared.page.Page.{Page}
 use Rattle.mage_place.specs.Pages.{IsPage, is_taken_on, is_used, has_room}
-use Rattle.mage_place.specs.Pools.{is_taken, class_at, is_open_page, is_open, is_listed, ArePages}
+use Rattle.mage_place.specs.Pools.{is_taken, class_at, is_open_page, is_open, is_listed, list_count, ArePages}
 use Rattle.mage_place.proofs.At.{slice_get-set_same, slice_get-set_other, slice_get-push_same, slice_get-push_other}
 
 -- page r of the new pages is p, and each other page is as in the old ones
@@ -60,8 +60,8 @@ module _ (old new : List Page) (r : ℕ) (p : Page) (changed : Changed old new r
 
   -- the lists are right but for page r, if they were right before
   pub open_pages-changed : (wires : ℕ) (lists : List (BTreeSet ℕ)) → ((c : ℕ) → c ≢ p.class → is_open wires old c r ≡ false)
-      → ((c q : ℕ) → c < 129 → is_listed lists c q ≡ is_open wires old c q)
-      → (c q : ℕ) → c < 129 → (eqb c (class_at new r) && eqb q r) ≡ false → is_listed lists c q ≡ is_open wires new c q
+      → ((c q : ℕ) → c < list_count → is_listed lists c q ≡ is_open wires old c q)
+      → (c q : ℕ) → c < list_count → (eqb c (class_at new r) && eqb q r) ≡ false → is_listed lists c q ≡ is_open wires new c q
   open_pages-changed wires lists same listed c q below other = ⊎_elim here there (cases_eq q r) where
     there : q ≢ r → is_listed lists c q ≡ is_open wires new c q
     there ne = listed c q below ∙ sym (is_open-other wires c q ne)
@@ -73,10 +73,10 @@ module _ (old new : List Page) (r : ℕ) (p : Page) (changed : Changed old new r
         rw e (listed c r below ∙ same c ne ∙ sym (is_open-changed wires c ∙ closed))
 
 -- page r is listed where it is open, and nothing else changed
-module _ (wires : ℕ) (pages : List Page) (lists : List (BTreeSet ℕ)) (r : ℕ) (p : Page) (s n : BTreeSet ℕ) (is : slice_get pages r ≡ Some p) (count : length lists ≡ 129) (below : p.class < 129) (was : slice_get lists p.class ≡ Some s)
-    (but : (c q : ℕ) → c < 129 → (eqb c (class_at pages r) && eqb q r) ≡ false → is_listed lists c q ≡ is_open wires pages c q)
+module _ (wires : ℕ) (pages : List Page) (lists : List (BTreeSet ℕ)) (r : ℕ) (p : Page) (s n : BTreeSet ℕ) (is : slice_get pages r ≡ Some p) (count : length lists ≡ list_count) (below : p.class < list_count) (was : slice_get lists p.class ≡ Some s)
+    (but : (c q : ℕ) → c < list_count → (eqb c (class_at pages r) && eqb q r) ≡ false → is_listed lists c q ≡ is_open wires pages c q)
     (at_r : contains nat_cmp n r ≡ (is_used p && has_room wires p)) (others : (q : ℕ) → q ≢ r → contains nat_cmp n q ≡ contains nat_cmp s q) where
-  pub open_pages-relisted : (c q : ℕ) → c < 129 → is_listed (set lists p.class n) c q ≡ is_open wires pages c q
+  pub open_pages-relisted : (c q : ℕ) → c < list_count → is_listed (set lists p.class n) c q ≡ is_open wires pages c q
   open_pages-relisted c q fits = ⊎_elim same_class other_class (cases_eq c p.class) where
     listed : (x : ℕ) → is_listed (set lists p.class n) p.class x ≡ contains nat_cmp n x
     listed x = ap (λ o. option_map_or (λ (t : BTreeSet ℕ). contains nat_cmp t x) o false) (slice_get-set_same lists p.class n (omega arith))

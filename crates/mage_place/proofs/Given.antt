@@ -10,13 +10,14 @@ use Rattle.std.proofs.lemmas.Nat.{le-div}
 use Rattle.std.proofs.lemmas.Option.{slice_get_past}
 use Rattle.std.proofs.Math.Nat.{div-mul-le_self, mul-div_cancel, mul-le-mul_right}
 use Rattle.mage_instr.specs.declared.instr.Place.{Place}
+use Rattle.mage_instr.specs.Opcodes.{greatest_width}
 use Rattle.mage_place.specs.declared.page.Page.{Page}
 use Rattle.mage_place.specs.Pages.{IsPage, is_taken_on, is_used, has_room}
 use Rattle.mage_place.specs.Pools.{is_taken, class_at, is_open_page, is_open, TakesPlace, Frees}
 use Rattle.mage_place.proofs.Changed.{Changed, class_at-changed, class_at-other, is_taken-changed, is_taken-other}
 
 -- a page that was just made, with its place 0 taken
-pub IsPage-fresh : (wires class : ℕ) (s : BTreeSet ℕ) → 1 ≤ class → class ≤ 128 → class ≤ wires → IsEmpty s → IsOrdered nat_cmp s → IsPage wires (record { class = class; next = 1; freed = s })
+pub IsPage-fresh : (wires class : ℕ) (s : BTreeSet ℕ) → 1 ≤ class → class ≤ greatest_width → class ≤ wires → IsEmpty s → IsOrdered nat_cmp s → IsPage wires (record { class = class; next = 1; freed = s })
 IsPage-fresh wires class s above below wide empty ordered = record {
   ordered = ordered;
   class_above = above;

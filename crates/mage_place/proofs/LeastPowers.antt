@@ -4,6 +4,7 @@ use Rattle.std.proofs.Math.Pow.{pow_mono}
 use Rattle.std.proofs.lemmas.Bool.{cases_lt, le-leb, lt-leb, cond-true, cond-false}
 use Rattle.std.proofs.lemmas.Grind.{pow_more}
 use Rattle.std.proofs.lemmas.Nat.{le-div}
+use Rattle.mage_instr.specs.Opcodes.{greatest_width}
 use Rattle.mage_place.specs.Classes.{IsLeastPower, class_of_width}
 
 -- a power of two above another is at least its double
@@ -34,7 +35,7 @@ between w r k m is ok above below =
     let low : m ≤ r = rw (is, ok.power.1) (double_below ok.power.0 k less) in
     omega arith
 
-pub class_of_width-from_least : (w r : ℕ) → 1 ≤ w → w ≤ 128 → IsLeastPower w r → r ≡ class_of_width w
+pub class_of_width-from_least : (w r : ℕ) → 1 ≤ w → w ≤ greatest_width → IsLeastPower w r → r ≡ class_of_width w
 class_of_width-from_least w r above below ok =
     step w 1 1 _ r (λ h. omega (arith, ok.wide, ok.least 0 h)) (λ a.
     step w 2 2 _ r (between w r 0 2 refl ok a) (λ b.

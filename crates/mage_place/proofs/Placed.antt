@@ -8,6 +8,7 @@ use Rattle.std.proofs.lemmas.List.Elements.{Contains-append_left, Contains-appen
 use Rattle.std.proofs.lemmas.Option.{slice_get_within}
 use Rattle.mage_instr.specs.declared.instr.Instr.{Instr}
 use Rattle.mage_instr.specs.declared.instr.Place.{Place}
+use Rattle.mage_instr.specs.Limits.{IsPageSize}
 use Rattle.mage_instr.specs.Opcodes.{has_result}
 use Rattle.mage_instr.specs.Sound.{IsSound, arg_of}
 use Rattle.std.proofs.Math.Pow.{pow_mono}
@@ -16,7 +17,7 @@ use Rattle.mage_place.specs.declared.pool.Pool.{Pool}
 use Rattle.mage_place.specs.Classes.{class_of_width}
 use Rattle.mage_place.specs.Live.{IsLive, Takes, HasClass, IsLastUse, class_of_result, args_of, values_touched_by}
 use Rattle.mage_place.specs.Pages.{is_used, has_room}
-use Rattle.mage_place.specs.Places.{place_of, nowhere, next_page, LivesOn, IsFree, IsOpen, IsPlaceIn, IsPlaceOf, IsPageSize, ArePlaces}
+use Rattle.mage_place.specs.Places.{place_of, nowhere, next_page, LivesOn, IsFree, IsOpen, IsPlaceIn, IsPlaceOf, ArePlaces}
 use Rattle.mage_place.specs.Pools.{is_taken, class_at, is_open, ends_at, ArePages, IsOn, IsReused, IsAdded, Gives, FreesEnded}
 use Rattle.mage_place.proofs.Given.{is_taken-at, is_taken-past, class_at-at, is_open-at, is_open-within, class-of_open}
 use Rattle.mage_place.proofs.Opens.{taken-from_used, used-from_taken, free-from_room, room-from_free}

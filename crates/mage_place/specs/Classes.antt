@@ -7,7 +7,7 @@ pub record IsLeastPower (width c : ℕ) : Type 0 where
   pub wide : width ≤ c
   pub least : (k : ℕ) → width ≤ 2 ^ k → c ≤ 2 ^ k
 
--- the least power of two not below a width of at most 128
+-- the least power of two not below a width that a value may have
 abbrev pub class_of_width : ℕ → ℕ
 class_of_width w =
     if nat_le w 1 then 1 else (if nat_le w 2 then 2 else (if nat_le w 4 then 4 else (if nat_le w 8 then 8 else

@@ -1,14 +1,10 @@
 -- The places of values in pages. Page q has `page` wires; a page of the class c has page / c places, and place k
 -- begins at wire k * c.
-use Rattle.std.specs.Prelude.{◌≡◌, ◌≤◌, ◌<◌, ◌+◌, ◌*◌, ◌/◌, ◌^◌, ℕ, List, [], ◌∷◌, max, length, take, slice_get, slice_index_or, IsTrue, IfSome, false, ◌⊎◌}
+use Rattle.std.specs.Prelude.{◌≡◌, ◌<◌, ◌+◌, ◌*◌, ◌/◌, ℕ, List, [], ◌∷◌, max, length, take, slice_get, slice_index_or, IsTrue, IfSome, false, ◌⊎◌}
 use Rattle.mage_instr.specs.declared.instr.Instr.{Instr}
 use Rattle.mage_instr.specs.declared.instr.Place.{Place}
 use Rattle.mage_instr.specs.Opcodes.{has_result}
 use Rattle.mage_place.specs.Live.{IsLive, HasClass, class_of_result}
-
--- the wires of a page are a power of two, from 64 to 65,536
-abbrev pub IsPageSize : ℕ → Type 0
-IsPageSize page = (k : ℕ) × (6 ≤ k) × (k ≤ 16) × (page ≡ 2 ^ k)
 
 -- the place of an instruction without a result
 abbrev pub nowhere : Place

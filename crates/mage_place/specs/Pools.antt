@@ -5,6 +5,7 @@ use Rattle.std.specs.Option.{option_map_or, ForSome}
 use Rattle.std.specs.Ordering.{nat_cmp}
 use Rattle.std.specs.BTreeSet.{BTreeSet, contains}
 use Rattle.mage_instr.specs.declared.instr.Place.{Place}
+use Rattle.mage_instr.specs.Opcodes.{greatest_width}
 use Rattle.mage_place.specs.declared.page.Page.{Page}
 use Rattle.mage_place.specs.declared.pool.Pool.{Pool}
 use Rattle.mage_place.specs.Places.{place_of}
@@ -33,18 +34,22 @@ is_listed open_pages c q = option_map_or (λ s. contains nat_cmp s q) (slice_get
 abbrev pub ArePages : (wires : ℕ) → List Page → Type 0
 ArePages wires pages = (q : ℕ) → ForSome (slice_get pages q) (IsPage wires)
 
+-- how many lists of open pages there are: one for each class, from 0 to the greatest width
+abbrev pub list_count : ℕ
+list_count = greatest_width + 1
+
 -- the pages are kept right, and so are the lists of the open ones
 pub record IsPool (pool : Pool) : Type 0 where
-  pub classes : length pool.open.items ≡ 129
+  pub classes : length pool.open.items ≡ list_count
   pub pages : ArePages pool.wires pool.pages.items
-  pub open_pages : (c q : ℕ) → c < 129
+  pub open_pages : (c q : ℕ) → c < list_count
       → is_listed pool.open.items c q ≡ is_open pool.wires pool.pages.items c q
 
 -- the same, but that page r may be listed wrong
 pub record IsPoolBut (pool : Pool) (r : ℕ) : Type 0 where
-  pub classes : length pool.open.items ≡ 129
+  pub classes : length pool.open.items ≡ list_count
   pub pages : ArePages pool.wires pool.pages.items
-  pub open_pages : (c q : ℕ) → c < 129 → ((c == class_at pool.pages.items r) && (q == r)) ≡ false
+  pub open_pages : (c q : ℕ) → c < list_count → ((c == class_at pool.pages.items r) && (q == r)) ≡ false
       → is_listed pool.open.items c q ≡ is_open pool.wires pool.pages.items c q
 
 -- place k of the page r, whose class is c, is taken in the new pages; all else is as in the old ones

@@ -1,11 +1,12 @@
 // The places of results, and the pages that instructions need.
 ghost use Rattle.std.specs.Prelude.{◌≡◌, ◌<◌, ◌≤◌, ℕ, length, IsTrue, IfOk, OnOk, MatchBool, None, false, Contains, take};
-ghost use Rattle.mage_instr.specs.Opcodes.{arity_of, has_result, width_of_result};
+ghost use Rattle.mage_instr.specs.Limits.{IsPageSize};
+ghost use Rattle.mage_instr.specs.Opcodes.{IsWidth, arity_of, has_result, width_of_result};
 ghost use Rattle.mage_instr.specs.declared.instr.TheConstants.{NEVER};
 ghost use Rattle.mage_instr.specs.Sound.{IsSound};
 ghost use Rattle.mage_instr.specs.Trace.{IsTrace};
 ghost use Rattle.mage_place.specs.Live.{class_of_result, values_touched_by};
-ghost use Rattle.mage_place.specs.Places.{IsPageSize, ArePlaces, nowhere, place_of, next_page};
+ghost use Rattle.mage_place.specs.Places.{ArePlaces, nowhere, place_of, next_page};
 ghost use Rattle.mage_place.specs.Placing.{places_of, trace_of};
 ghost use Rattle.mage_place.specs.Steps.{AreSteps};
 ghost use Rattle.mage_place.specs.TooWide.{is_too_wide, page_tight};
@@ -71,7 +72,7 @@ fn places_of(alloc: Global, instrs: &[Instr], page: u32) -> Result<Vec<Place>, M
 // A place for the result of an instruction, where it has one.
 fn place_result(pool: &mut Pool, alloc: Global, instr: Instr) -> Result<Place, Memory>
     requires pool { IsPool pool.old }
-    requires width { (1 ≤ instr.width) × (instr.width ≤ 128) }
+    requires width { IsWidth instr.width }
     requires fits { is_too_wide pool.old.wires instr ≡ false }
     requires wires { pool.old.wires ≤ 65536 }
     requires few { length pool.old.pages.items < NEVER }

@@ -1,11 +1,12 @@
 // All pages of a program, and taking and freeing their places.
 ghost use Rattle.std.specs.Prelude.{◌≡◌, ◌<◌, ◌≤◌, ◌*◌, ℕ, List, [], length, slice_get, IfOk, OnOk, IfSome, IfNone, true, false, ◌+◌};
 ghost use Rattle.mage_instr.specs.declared.instr.TheConstants.{NEVER};
+ghost use Rattle.mage_instr.specs.Opcodes.{IsWidth, greatest_width};
 ghost use Rattle.mage_place.specs.Pools.{IsPool, IsPoolBut, Gives, TakesPlace, IsReused, IsAdded, Frees, IsOn, IsOfPage, is_open};
 
 use crate::page::{Page, free_place, is_partly_taken, take_lowest};
 use mage_base::Memory;
-use mage_instr::Place;
+use mage_instr::{GREATEST_WIDTH, Place};
 use std::alloc::Global;
 use std::collections::BTreeSet;
 
@@ -17,14 +18,15 @@ pub struct Pool {
     pub open: Vec<BTreeSet<u32>>,
 }
 
-// No page. The lists of open pages go by class, from 0 to 128.
+// No page. The lists of open pages go by class, from 0 to the greatest width.
 pub fn no_pages(alloc: Global, wires: u32) -> Result<Pool, Memory>
     ensures pool { IfOk result IsPool }
     ensures wires { IfOk result (λ pool. pool.wires ≡ wires) }
     ensures pages { IfOk result (λ pool. pool.pages.items ≡ []) }
 {
-    let mut open = Vec::with_capacity(alloc, 129)?;
-    for _ in 0..129u32 {
+    let lists = usize::from(GREATEST_WIDTH) + 1;
+    let mut open = Vec::with_capacity(alloc, lists)?;
+    for _ in 0..lists {
         open.push(BTreeSet::new(alloc))?;
     }
     Ok(Pool {
@@ -37,7 +39,7 @@ pub fn no_pages(alloc: Global, wires: u32) -> Result<Pool, Memory>
 // A place for a value of this class.
 pub fn take(pool: &mut Pool, alloc: Global, class: u8) -> Result<Place, Memory>
     requires pool { IsPool pool.old }
-    requires class { (1 ≤ class) × (class ≤ 128) }
+    requires class { IsWidth class }
     requires fits { class ≤ pool.old.wires }
     requires wires { pool.old.wires ≤ 65536 }
     requires few { length pool.old.pages.items < NEVER }
@@ -55,7 +57,7 @@ pub fn take(pool: &mut Pool, alloc: Global, class: u8) -> Result<Place, Memory>
 // The open page of a class with the highest number.
 fn last_open(pool: &Pool, class: u8) -> Option<u32>
     requires pool { IsPool pool.now }
-    requires class { class ≤ 128 }
+    requires class { class ≤ greatest_width }
     ensures some { IfSome result (λ q.
         is_open pool.now.wires pool.now.pages.items class q ≡ true) }
     ensures highest { IfSome result (λ q. (r : ℕ) → q < r
@@ -69,7 +71,7 @@ fn last_open(pool: &Pool, class: u8) -> Option<u32>
 // The lowest free place of an open page.
 fn reuse(pool: &mut Pool, page: u32, class: u8) -> Result<Place, Memory>
     requires pool { IsPool pool.old }
-    requires class { (1 ≤ class) × (class ≤ 128) }
+    requires class { IsWidth class }
     requires fits { class ≤ pool.old.wires }
     requires wires { pool.old.wires ≤ 65536 }
     requires open { is_open pool.old.wires pool.old.pages.items class page ≡ true }
@@ -87,7 +89,7 @@ fn reuse(pool: &mut Pool, page: u32, class: u8) -> Result<Place, Memory>
 // The first place of a new page.
 fn add(pool: &mut Pool, alloc: Global, class: u8) -> Result<Place, Memory>
     requires pool { IsPool pool.old }
-    requires class { (1 ≤ class) × (class ≤ 128) }
+    requires class { IsWidth class }
     requires fits { class ≤ pool.old.wires }
     requires wires { pool.old.wires ≤ 65536 }
     requires few { length pool.old.pages.items < NEVER }

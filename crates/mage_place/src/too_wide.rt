@@ -1,5 +1,6 @@
 // Values that don't fit a page.
-ghost use Rattle.std.specs.Prelude.{◌≡◌, ◌≤◌, Some, None, if◌then◌else◌};
+ghost use Rattle.std.specs.Prelude.{◌≡◌, Some, None, if◌then◌else◌};
+ghost use Rattle.mage_instr.specs.Opcodes.{IsWidth};
 ghost use Rattle.mage_instr.specs.Sound.{IsSound};
 ghost use Rattle.mage_place.specs.TooWide.{is_too_wide, page_tight};
 ghost use Rattle.mage_place.specs.Live.{class_of_result};
@@ -24,7 +25,7 @@ pub fn page_tight(instrs: &[Instr], page: u32) -> Option<Tight>
 
 // The class of an instruction's value, where it is greater than a page.
 fn class_above(instr: Instr, page: u32) -> Option<u8>
-    requires { (1 ≤ instr.width) × (instr.width ≤ 128) }
+    requires { IsWidth instr.width }
     ensures { result ≡ (if is_too_wide page instr then Some (class_of_result instr) else None) }
 {
     let class = class_of(result_width(instr.op, instr.width)?);

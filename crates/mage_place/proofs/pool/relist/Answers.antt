@@ -1,6 +1,7 @@
 use Rattle.std.proofs.Common.{◌≡◌, ◌<◌, length, slice_get, Some, arith, refl, ◌∙◌}
 use Rattle.std.proofs.lemmas.Option.{slice_get_read}
 use Rattle.mage_place.specs.Pages.{IsPage}
+use Rattle.mage_place.specs.Pools.{list_count}
 use Rattle.mage_place.proofs.Changed.{open_pages-relisted, other_numbers}
 use Rattle.std.proofs.lemmas.List.{length-set}
 use Rattle.mage_place.proofs.pool.relist.Goals as goal
@@ -27,7 +28,7 @@ pub returns-in_ok-insert-clause-pool : goal.returns-in_ok-insert-clause-pool
 returns-in_ok-insert-clause-pool c =
     let start = (goal.at.returns-in_ok-insert-clause-pool c).After-index-changed in
     let pool = c.args.pool.now in let p = c.index-changed.result.now in let s = c.index_mut.result.now in
-    let below : p.class < 129 = omega (arith, (page_ok start).class_below) in
+    let below : p.class < list_count = omega (arith, (page_ok start).class_below) in
     let was : slice_get pool.open.items p.class ≡ Some s = slice_get_read pool.open.items (length pool.open.items) p.class s refl (omega (arith, below, c.requires.pool.classes)) (rw c.from-class.ensures at c.index_mut.ensures.value) in
     rw c.from-class.ensures (record {
       classes = length-set pool.open.items p.class c.insert.new.self ∙ c.requires.pool.classes;
@@ -40,7 +41,7 @@ pub returns-else-open-clause-pool : goal.returns-else-open-clause-pool
 returns-else-open-clause-pool c =
     let start = (goal.at.returns-else-open-clause-pool c).After-index-changed in
     let pool = c.args.pool.now in let p = c.index-changed.result.now in let s = c.index_mut-else-open.result.now in
-    let below : p.class < 129 = omega (arith, (page_ok start).class_below) in
+    let below : p.class < list_count = omega (arith, (page_ok start).class_below) in
     let was : slice_get pool.open.items p.class ≡ Some s = slice_get_read pool.open.items (length pool.open.items) p.class s refl (omega (arith, below, c.requires.pool.classes)) (rw c.from-class.ensures at c.index_mut-else-open.ensures.value) in
     rw c.from-class.ensures (record {
       classes = length-set pool.open.items p.class c.remove.new.self ∙ c.requires.pool.classes;
