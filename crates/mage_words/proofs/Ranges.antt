@@ -8,7 +8,7 @@ use Rattle.std.proofs.Math.Nat.{lt_of_not-le, pow-suc}
 use Rattle.std.proofs.Math.Pow.{pow_mono}
 use Rattle.std.proofs.lemmas.Nat.{leading_top, ones_cat, zero_from_ones}
 use Rattle.std.proofs.lemmas.Bool.Decides.{Decides-eqb}
-use Rattle.mage_instr.specs.Limits.{AreInRange}
+use Rattle.mage_instr.specs.Limits.{IsPageSize, most_frames, most_slots, most_ahead, most_wires, AreInRange}
 use Rattle.mage_instr.specs.declared.replaced.Limits.{Limits}
 use Rattle.mage_words.specs.declared.command.CommandName.{CommandName}
 use Rattle.mage_words.specs.declared.command.CommandName.TheVariants as command
@@ -16,7 +16,7 @@ use Rattle.mage_words.specs.declared.fault.WordsFault.{WordsFault}
 use Rattle.mage_words.specs.declared.option.OptionName.{OptionName}
 use Rattle.mage_words.specs.declared.option.OptionName.TheVariants as option
 use Rattle.mage_words.specs.Commands.{command_named, rules_of}
-use Rattle.mage_words.specs.Options.{rule_of}
+use Rattle.mage_words.specs.Options.{shortest_page, longest_page, rule_of}
 use Rattle.mage_words.specs.Words.{◌>>=◌, Pair, Request, Solo, SoloRequest, Stats, StatsRequest, asked_of, asked_of_pairs, driver_of, if_power_of_two, if_within, is_number, limits_in, limits_of, number, number_in, pairs_of, request_of, solo_of_values, stats_of_values, takes, value_of}
 use Rattle.mage_words.specs.Answers.{Reads}
 use Rattle.mage_words.proofs.Rows.{both}
@@ -39,12 +39,12 @@ only_bit n k low high one =
     let none : rest ≡ 0 = zero_from_ones rest (omega (arith, bits, one, one_bit)) in
     omega (arith, none, low)
 
-power_is : (n : ℕ) → 64 ≤ n → n ≤ 65536 → is_power_of_two n ≡ true → (k : ℕ) × (6 ≤ k) × (k ≤ 16) × (n ≡ 2 ^ k)
+power_is : (n : ℕ) → shortest_page ≤ n → n ≤ longest_page → is_power_of_two n ≡ true → IsPageSize n
 power_is n low high one =
     let top = leading_top 17 n (omega arith) (omega arith) in
     go top.0 (omega (arith, top.1)) top.2 top.3
   where
-    go : (k : ℕ) → k ≤ 16 → 2 ^ k ≤ n → n < 2 ^ suc k → (k : ℕ) × (6 ≤ k) × (k ≤ 16) × (n ≡ 2 ^ k)
+    go : (k : ℕ) → k ≤ 16 → 2 ^ k ≤ n → n < 2 ^ suc k → IsPageSize n
     go k few below above =
         let some : 5 < k = lt_of_not-le (λ (less : k ≤ 5). let short : 2 ^ suc k ≤ 2 ^ 6 = pow_mono {i = suc k} {j = 6} (omega arith) in omega (arith, short, above, low)) in
         (k, some, few, only_bit n k below above ((Decides-eqb (count_ones n) 1).0 one))
@@ -79,22 +79,22 @@ power_kept n m = go (is_power_of_two n)
     go false is = cc
     go true is = (ap (λ o. unwrap_or o m) is, refl)
 
-within_kept : (all kept : Limits) → if_within all ≡ Some kept → (all ≡ kept) × ((all.frames + all.buffer) * all.page ≤ 4194304)
-within_kept all kept = go (nat_le ((all.frames + all.buffer) * all.page) 4194304) refl
+within_kept : (all kept : Limits) → if_within all ≡ Some kept → (all ≡ kept) × ((all.frames + all.buffer) * all.page ≤ most_wires)
+within_kept all kept = go (nat_le ((all.frames + all.buffer) * all.page) most_wires) refl
   where
-    go : (b : Bool) → nat_le ((all.frames + all.buffer) * all.page) 4194304 ≡ b → cond b (Some all) None ≡ Some kept
-        → (all ≡ kept) × ((all.frames + all.buffer) * all.page ≤ 4194304)
+    go : (b : Bool) → nat_le ((all.frames + all.buffer) * all.page) most_wires ≡ b → cond b (Some all) None ≡ Some kept
+        → (all ≡ kept) × ((all.frames + all.buffer) * all.page ≤ most_wires)
     go false test is = cc
-    go true test is = (ap (λ o. unwrap_or o kept) is, leb-true _ 4194304 test)
+    go true test is = (ap (λ o. unwrap_or o kept) is, leb-true _ most_wires test)
 
 module _ (value : OptionName → Option Text) where
-  page_is : (page : ℕ) → number value option.Page ≡ Some page → (k : ℕ) × (6 ≤ k) × (k ≤ 16) × (page ≡ 2 ^ k)
+  page_is : (page : ℕ) → number value option.Page ≡ Some page → IsPageSize page
   page_is page is =
       let given = then_some (value option.Page) _ page is in
-      let read = then_some (number_in 64 65536 given.0) if_power_of_two page given.2 in
-      let range = number_between 64 65536 given.0 read.0 read.1 in
+      let read = then_some (number_in shortest_page longest_page given.0) if_power_of_two page given.2 in
+      let range = number_between shortest_page longest_page given.0 read.0 read.1 in
       let kept = power_kept read.0 page read.2 in
-      subst (λ n. (k : ℕ) × (6 ≤ k) × (k ≤ 16) × (n ≡ 2 ^ k)) kept.0 (power_is read.0 range.0 range.1 kept.1)
+      subst IsPageSize kept.0 (power_is read.0 range.0 range.1 kept.1)
 
   limits_are : (limits : Limits) → limits_of value ≡ Some limits → AreInRange limits
   unfolding limits_of
@@ -106,15 +106,15 @@ module _ (value : OptionName → Option Text) where
       let frames_text = then_some (value option.Frames) _ frames.0 frames.1 in
       let buffer_text = then_some (value option.Buffer) _ buffer.0 buffer.1 in
       let ahead_text = then_some (value option.Ahead) _ ahead.0 ahead.1 in
-      let frames_range = number_between 1 65536 frames_text.0 frames.0 frames_text.2 in
+      let frames_range = number_between 1 most_frames frames_text.0 frames.0 frames_text.2 in
       let all : Limits = record { page = page.0; frames = frames.0; buffer = buffer.0; ahead = ahead.0 } in
       let kept = within_kept all limits ahead.2 in
       subst AreInRange kept.0 (record {
         page = page_is page.0 page.1;
         some_frame = frames_range.0;
         frames = frames_range.1;
-        buffer = (number_between 0 4096 buffer_text.0 buffer.0 buffer_text.2).1;
-        ahead = (number_between 0 1000000 ahead_text.0 ahead.0 ahead_text.2).1;
+        buffer = (number_between 0 most_slots buffer_text.0 buffer.0 buffer_text.2).1;
+        ahead = (number_between 0 most_ahead ahead_text.0 ahead.0 ahead_text.2).1;
         wires = kept.1;
       })
 

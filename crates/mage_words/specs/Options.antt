@@ -1,6 +1,7 @@
 -- The options of the commands: what each is called, what its value has to be, and what stands for it where it isn't
 -- given.
 use Rattle.std.specs.Prelude.{ℕ, List, codes}
+use Rattle.mage_instr.specs.Limits.{most_frames, most_slots, most_ahead}
 use Rattle.mage_words.specs.declared.option.OptionName.{OptionName}
 use Rattle.mage_words.specs.declared.option.OptionName.TheVariants as option
 use Rattle.mage_words.specs.declared.option.Kind.{Kind}
@@ -24,16 +25,24 @@ pub record OptionRule : Type 0 where
 abbrev pub row : List ℕ → Kind → Absence → OptionRule
 row name kind absence = record { name = name; kind = kind; absence = absence }
 
+-- The wires of the shortest page and of the longest: a power of two from the one to the other is a page size
+-- (mage_instr's IsPageSize).
+abbrev pub shortest_page : ℕ
+shortest_page = 64
+
+abbrev pub longest_page : ℕ
+longest_page = 65536
+
 -- the table
 abbrev pub rule_of : OptionName → OptionRule
 rule_of option.Source = row (codes "source") File Required
 rule_of option.Garbler = row (codes "garbler") File Optional
 rule_of option.Evaluator = row (codes "evaluator") File Optional
 rule_of option.Driver = row (codes "driver") Driver (Default (codes "plain"))
-rule_of option.Page = row (codes "page") (PowerOfTwo 64 65536) (Default (codes "256"))
-rule_of option.Frames = row (codes "frames") (Number 1 65536) (Default (codes "64"))
-rule_of option.Buffer = row (codes "buffer") (Number 0 4096) (Default (codes "8"))
-rule_of option.Ahead = row (codes "ahead") (Number 0 1000000) (Default (codes "64"))
+rule_of option.Page = row (codes "page") (PowerOfTwo shortest_page longest_page) (Default (codes "256"))
+rule_of option.Frames = row (codes "frames") (Number 1 most_frames) (Default (codes "64"))
+rule_of option.Buffer = row (codes "buffer") (Number 0 most_slots) (Default (codes "8"))
+rule_of option.Ahead = row (codes "ahead") (Number 0 most_ahead) (Default (codes "64"))
 
 -- what a row of the code's table says
 abbrev pub absence_view : code_absence.Absence → Absence

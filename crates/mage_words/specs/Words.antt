@@ -9,6 +9,7 @@ use Rattle.std.specs.Str.{bytes_eq}
 use Rattle.std.specs.Str.Parse.{digits_value}
 use Rattle.std.specs.declared.alloc.Global.{Global}
 use Rattle.mage_instr.specs.declared.replaced.Limits.{Limits}
+use Rattle.mage_instr.specs.Limits.{most_wires}
 use Rattle.mage_words.specs.declared.option.OptionName.{OptionName}
 use Rattle.mage_words.specs.declared.option.OptionName.TheVariants as option
 use Rattle.mage_words.specs.declared.option.Kind.{Kind}
@@ -114,9 +115,9 @@ number_for (kind.Number least most) text = number_in least most text
 number_for (kind.PowerOfTwo least most) text = number_in least most text >>= if_power_of_two
 number_for other text = None
 
--- frames and buffer hold at most 4,194,304 wires together
+-- the limits, where frames and buffer hold no more wires together than they may
 abbrev pub if_within : Limits → Option Limits
-if_within limits = if nat_le ((limits.frames + limits.buffer) * limits.page) 4194304 then Some limits else None
+if_within limits = if nat_le ((limits.frames + limits.buffer) * limits.page) most_wires then Some limits else None
 
 -- the driver of a name
 abbrev pub driver_of : List ℕ → Option Driver

@@ -4,6 +4,21 @@ ghost use Rattle.mage_words.specs.Options.{rule_of, rule_view};
 
 use crate::option::{Absence, Kind, OptionName, OptionRule};
 
+// The wires of the shortest page.
+const SHORTEST_PAGE: u32 = 64;
+
+// The wires of the longest page.
+const LONGEST_PAGE: u32 = 65_536;
+
+// The most frames in memory.
+const MOST_FRAMES: u32 = 65_536;
+
+// The most slots of the buffer.
+const MOST_SLOTS: u32 = 4_096;
+
+// The most instructions ahead of its need that a page may be read.
+const MOST_AHEAD: u32 = 1_000_000;
+
 /// The row of an option.
 pub fn rule_of(option: OptionName) -> OptionRule
     ensures { rule_view result ≡ rule_of option }
@@ -16,8 +31,8 @@ pub fn rule_of(option: OptionName) -> OptionRule
         OptionName::Page => (
             "page",
             Kind::PowerOfTwo {
-                least: 64,
-                most: 65_536,
+                least: SHORTEST_PAGE,
+                most: LONGEST_PAGE,
             },
             Absence::Default("256"),
         ),
@@ -25,7 +40,7 @@ pub fn rule_of(option: OptionName) -> OptionRule
             "frames",
             Kind::Number {
                 least: 1,
-                most: 65_536,
+                most: MOST_FRAMES,
             },
             Absence::Default("64"),
         ),
@@ -33,7 +48,7 @@ pub fn rule_of(option: OptionName) -> OptionRule
             "buffer",
             Kind::Number {
                 least: 0,
-                most: 4_096,
+                most: MOST_SLOTS,
             },
             Absence::Default("8"),
         ),
@@ -41,7 +56,7 @@ pub fn rule_of(option: OptionName) -> OptionRule
             "ahead",
             Kind::Number {
                 least: 0,
-                most: 1_000_000,
+                most: MOST_AHEAD,
             },
             Absence::Default("64"),
         ),
