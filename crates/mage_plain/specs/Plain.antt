@@ -1,9 +1,11 @@
 -- The rules of the driver that computes in plain: a wire is its bit.
-use Rattle.std.specs.Prelude.{ℕ, ◌+◌, ◌%◌, ◌^◌, ◌==◌, nat_lt, List, [], ◌∷◌, ◌++◌, Bool, not, ◌&&◌, None, if◌then◌else◌, length, unwrap_or, slice_get, slice_index, drop}
+use Rattle.std.specs.Prelude.{ℕ, ◌+◌, ◌%◌, ◌^◌, ◌==◌, nat_lt, List, [], ◌∷◌, ◌++◌, Bool, true, not, ◌&&◌, None, if◌then◌else◌, length, unwrap_or, slice_get, slice_index, drop}
 use Rattle.mage_bits.specs.Bits.{bits, number}
 use Rattle.mage_instr.specs.declared.party.Party.{Party}
 use Rattle.mage_instr.specs.declared.party.Party.TheVariants as party
+use Rattle.mage_driver.specs.declared.standing.Standing.{Standing}
 use Rattle.mage_driver.specs.Rules.{Rules}
+use Rattle.mage_driver.specs.Calls.{Told}
 
 pub record Plain : Type 0 where
   -- the values of each party that are still to come
@@ -14,6 +16,15 @@ pub record Plain : Type 0 where
   pub room : ℕ
   -- how many ANDs were made, modulo 2 ^ 63
   pub ands : ℕ
+
+-- the driver as its callers see it
+pub record PlainMoment : Type 0 where
+  pub state : Plain
+  pub standing : Standing
+
+-- what it tells: it has no source and no sink that could fail, and its state is always told
+abbrev pub told_of : PlainMoment → Told Plain
+told_of d = record { state = d.state; standing = d.standing; faults = 0; told = true }
 
 -- one wire is another, but not both
 abbrev pub differ : Bool → Bool → Bool

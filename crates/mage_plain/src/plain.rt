@@ -29,10 +29,9 @@ impl Model for PlainDriver {
     ghost use Rattle.std.specs.Prelude.{◌≤◌, ◌<◌, ◌^◌, drop, length, if◌then◌else◌};
     ghost use Rattle.std.specs.Vec.{vec_len, vec_capacity};
     ghost use Rattle.mage_driver.specs.declared.standing.Standing.TheVariants as standing;
-    ghost use Rattle.mage_driver.specs.Calls.{Told};
-    ghost use Rattle.mage_plain.specs.Plain.{Plain};
+    ghost use Rattle.mage_plain.specs.Plain.{PlainMoment};
 
-    ghost Value = { Told Plain };
+    ghost Value = { PlainMoment };
 
     ghost view = { λ d. record {
       state = record {
@@ -43,7 +42,6 @@ impl Model for PlainDriver {
         ands = d.ands;
       };
       standing = if d.is_finished then standing.Finished else standing.Running;
-      faults = 0;
     } };
 
     ghost invariant = { λ d. (length d.outputs.items ≤ d.room) × (d.room ≤ vec_capacity d.outputs)
@@ -69,7 +67,6 @@ impl PlainDriver {
             ands = 0;
           };
           standing = standing.Running;
-          faults = 0;
         }) }
     {
         let kept = Vec::with_capacity(alloc, outputs as usize)?;
@@ -120,7 +117,7 @@ fn spread(value: u128, into: &mut [bool])
 
 impl Driver for PlainDriver {
     ghost use Rattle.std.specs.Prelude.{refl};
-    ghost use Rattle.mage_plain.specs.Plain.{plain_rules};
+    ghost use Rattle.mage_plain.specs.Plain.{plain_rules, told_of};
     ghost use Rattle.mage_plain.specs.PlainLaws.{plain_is_lawful};
 
     type Wire = bool;
@@ -131,7 +128,7 @@ impl Driver for PlainDriver {
 
     ghost rules = { plain_rules };
 
-    ghost tells = { λ d. d };
+    ghost tells = { told_of };
 
     fn input(&mut self, party: Party, into: &mut [bool]) -> Result<(), DriverFault> {
         match party {
