@@ -11,7 +11,7 @@ use Rattle.mage_driver.specs.Calls.{Told}
 use Rattle.mage_driver.specs.Circuits.{Went, followed, formed, folded}
 use Rattle.mage_driver.specs.Operations.{Counted, count_bit, counted, resized}
 use Rattle.mage_circuit.specs.Numbers.{grown, increased, bits_of}
-use Rattle.mage_driver.proofs.Making.{FellIn, went_formed, went_followed, went_to}
+use Rattle.mage_driver.proofs.Making.{FellIn, went_given, went_formed, went_followed, went_to}
 
 -- what was counted so far
 abbrev pub counted_to : {W : Type 0} → ℕ → List W → Counted W
@@ -55,20 +55,20 @@ module _ {W : Type 0} (rules : Rules W) where
   pub count_full_step : (seen : ℕ) (bits found : List W) (bit : W) (before after : Told rules.State) → (seen + 1 == 2 ^ length bits) ≡ true →
       Went rules (grown rules bit bits) before after found → Went rules (count_bit rules (record { seen = seen; bits = bits }) bit) before after (record { seen = seen + 1; bits = found })
   count_full_step seen bits found bit before after full went =
-      rw full (record { passed = went.passed; told = went.told; wires = ap (λ ds. record { seen = seen + 1; bits = ds }) went.wires })
+      rw full (record { passed = went.passed; state = went.state; wires = λ t. ap (λ ds. record { seen = seen + 1; bits = ds }) (went.wires t); rest = went.rest })
 
   pub count_more_step : (seen : ℕ) (bits found : List W) (bit : W) (before after : Told rules.State) → (seen + 1 == 2 ^ length bits) ≡ false →
       Went rules (increased rules bit bits) before after found → Went rules (count_bit rules (record { seen = seen; bits = bits }) bit) before after (record { seen = seen + 1; bits = found })
   count_more_step seen bits found bit before after full went =
-      rw full (record { passed = went.passed; told = went.told; wires = ap (λ ds. record { seen = seen + 1; bits = ds }) went.wires })
+      rw full (record { passed = went.passed; state = went.state; wires = λ t. ap (λ ds. record { seen = seen + 1; bits = ds }) (went.wires t); rest = went.rest })
 
   pub count_full_falls : (seen : ℕ) (bits : List W) (bit : W) (before after : Told rules.State) (f : DriverFault) → (seen + 1 == 2 ^ length bits) ≡ true →
       FellIn rules (grown rules bit bits) before after f → FellIn rules (count_bit rules (record { seen = seen; bits = bits }) bit) before after f
-  count_full_falls seen bits bit before after f full fell = rw full (record { stopped = fell.stopped; failed = fell.failed; counted = fell.counted })
+  count_full_falls seen bits bit before after f full fell = rw full (record { stopped = fell.stopped; failed = fell.failed; counted = fell.counted; told = fell.told })
 
   pub count_more_falls : (seen : ℕ) (bits : List W) (bit : W) (before after : Told rules.State) (f : DriverFault) → (seen + 1 == 2 ^ length bits) ≡ false →
       FellIn rules (increased rules bit bits) before after f → FellIn rules (count_bit rules (record { seen = seen; bits = bits }) bit) before after f
-  count_more_falls seen bits bit before after f full fell = rw full (record { stopped = fell.stopped; failed = fell.failed; counted = fell.counted })
+  count_more_falls seen bits bit before after f full fell = rw full (record { stopped = fell.stopped; failed = fell.failed; counted = fell.counted; told = fell.told })
 
   -- the first bit is there, and the others are counted
   pub counted_went : (a rest bits : List W) (first : W) (before after : Told rules.State) (all : Counted W) → a ≡ first ∷ rest → bits ≡ first ∷ [] →
@@ -81,16 +81,15 @@ module _ {W : Type 0} (rules : Rules W) where
       FellIn rules (folded rules (count_bit rules) (counted_to 1 bits) rest) before after f → FellIn rules (formed rules bits_of (counted rules a)) before after f
   counted_falls a rest bits first before after f split start fell =
       let same = subst (λ ds. FellIn rules (folded rules (count_bit rules) (counted_to 1 ds) rest) before after f) start fell in
-      rw split (record { stopped = same.stopped; failed = same.failed; counted = same.counted })
+      rw split (record { stopped = same.stopped; failed = same.failed; counted = same.counted; told = same.told })
 
   -- the number with zeros above it
   pub resized_went : (a wires found : List W) (w : ℕ) (before after : Told rules.State) → Went rules (formed rules bits_of (counted rules a)) before after found → after.standing ≡ standing.Running →
       wires ≡ take w (found ++ replicate w (rules.constant after.state false)) →
       Went rules (followed rules (counted rules a) (λ all. resized rules w all.bits)) before after wires
   resized_went a wires found w before after went runs same =
-      let all = (counted rules a before.state).wires in
-      let made : Went rules (counted rules a) before after all = record { passed = went.passed; told = went.told; wires = refl } in
+      let zeros = went_given rules (take w (found ++ replicate w (rules.constant after.state false))) after runs in
+      let all = went_followed rules (formed rules bits_of (counted rules a)) (resized rules w) before after after found _ went
+      (record { passed = zeros.passed; state = zeros.state; wires = zeros.wires; rest = zeros.rest }) in
       went_to rules (followed rules (counted rules a) (λ all. resized rules w all.bits)) before after _ wires
-      (went_followed rules (counted rules a) (λ all. resized rules w all.bits) before after after all _ made
-      (record { passed = tt; told = ap (λ s. record { state = after.state; standing = s; faults = after.faults }) runs; wires = refl }))
-      (ap (λ ds. take w (ds ++ replicate w (rules.constant after.state false))) (sym went.wires) ∙ sym same)
+      (record { passed = all.passed; state = all.state; wires = all.wires; rest = all.rest }) (sym same)

@@ -1,5 +1,5 @@
 -- A turn of a division.
-use Rattle.std.proofs.Common.{◌≡◌, ◌<◌, ◌≤◌, ◌+◌, ◌-◌, ◌*◌, ℕ, zero, suc, List, [], ◌∷◌, ◌++◌, length, get_or, set, take, drop, reverse, subst, refl, sym, ap, ◌∙◌, arith, append_assoc}
+use Rattle.std.proofs.Common.{◌≡◌, ◌<◌, ◌≤◌, ◌+◌, ◌-◌, ◌*◌, ℕ, zero, suc, List, [], ◌∷◌, ◌++◌, length, get_or, set, take, drop, reverse, refl, sym, ap, ◌∙◌, arith, append_assoc}
 use Rattle.std.specs.List.{zip}
 use Rattle.std.proofs.lemmas.List.{append-nil, take_all, take_at, take_more, take_more_set, take-append-drop, drop_at, length-take, length-drop, length-set, reverse-append, set-append_left, set-append_right}
 use Rattle.mage_instr.specs.declared.fault.DriverFault.{DriverFault}
@@ -42,15 +42,12 @@ module _ {W : Type 0} (rules : Rules W) where
   taken_away_went b bits left bit carry goes rest before mid next after first second third =
       let h = highest_of rules bit rest in
       let x = moved_in rules bit rest in
-      let both = (anded rules h carry mid.state).wires in
-      let and : Went rules (anded rules h carry) mid next both = record { passed = second.passed; told = second.told; wires = refl } in
+      let there = went_followed rules (formed rules (either rules h carry) (anded rules h carry)) (λ g. formed rules (with_carry rules g) (each rules (replace_bit rules g) (zip x bits)))
+      mid next after goes _ second (went_formed rules (with_carry rules goes) (each rules (replace_bit rules goes) (zip x bits)) next after left third) in
       went_followed rules (compared rules (zip x b))
       (λ difference. followed rules (anded rules h difference.carry) (λ both. formed rules (with_carry rules (either rules h difference.carry both)) (each rules (replace_bit rules (either rules h difference.carry both)) (zip x difference.bits))))
       before mid after (record { carry = carry; bits = bits }) _ first
-      (went_followed rules (anded rules h carry) (λ both. formed rules (with_carry rules (either rules h carry both)) (each rules (replace_bit rules (either rules h carry both)) (zip x bits)))
-      mid next after both _ and
-      (subst (λ w. Went rules (formed rules (with_carry rules w) (each rules (replace_bit rules w) (zip x bits))) next after (record { carry = goes; bits = left })) second.wires
-      (went_formed rules (with_carry rules goes) (each rules (replace_bit rules goes) (zip x bits)) next after left third)))
+      (record { passed = there.passed; state = there.state; wires = there.wires; rest = there.rest })
 
   pub taken_away_falls_first : (b : List W) (bit : W) (rest : List W) (before after : Told rules.State) (f : DriverFault) →
       FellIn rules (compared rules (zip (moved_in rules bit rest) b)) before after f → FellIn rules (taken_away rules b bit rest) before after f
@@ -72,7 +69,7 @@ module _ {W : Type 0} (rules : Rules W) where
       (λ difference. followed rules (anded rules h difference.carry) (λ both. formed rules (with_carry rules (either rules h difference.carry both)) (each rules (replace_bit rules (either rules h difference.carry both)) (zip x difference.bits))))
       before mid after (record { carry = carry; bits = bits }) f first
       (fell_first rules (anded rules h carry) (λ both. formed rules (with_carry rules (either rules h carry both)) (each rules (replace_bit rules (either rules h carry both)) (zip x bits)))
-      mid after f (record { stopped = fell.stopped; failed = fell.failed; counted = fell.counted }))
+      mid after f (record { stopped = fell.stopped; failed = fell.failed; counted = fell.counted; told = fell.told }))
 
   pub taken_away_falls_last : (b bits : List W) (bit carry goes : W) (rest : List W) (before mid next after : Told rules.State) (f : DriverFault) →
       Went rules (compared rules (zip (moved_in rules bit rest) b)) before mid (record { carry = carry; bits = bits }) →
@@ -82,15 +79,12 @@ module _ {W : Type 0} (rules : Rules W) where
   taken_away_falls_last b bits bit carry goes rest before mid next after f first second fell =
       let h = highest_of rules bit rest in
       let x = moved_in rules bit rest in
-      let both = (anded rules h carry mid.state).wires in
-      let and : Went rules (anded rules h carry) mid next both = record { passed = second.passed; told = second.told; wires = refl } in
+      let there = fell_next rules (formed rules (either rules h carry) (anded rules h carry)) (λ g. formed rules (with_carry rules g) (each rules (replace_bit rules g) (zip x bits)))
+      mid next after goes f second (record { stopped = fell.stopped; failed = fell.failed; counted = fell.counted; told = fell.told }) in
       fell_next rules (compared rules (zip x b))
       (λ difference. followed rules (anded rules h difference.carry) (λ both. formed rules (with_carry rules (either rules h difference.carry both)) (each rules (replace_bit rules (either rules h difference.carry both)) (zip x difference.bits))))
       before mid after (record { carry = carry; bits = bits }) f first
-      (fell_next rules (anded rules h carry) (λ both. formed rules (with_carry rules (either rules h carry both)) (each rules (replace_bit rules (either rules h carry both)) (zip x bits)))
-      mid next after both f and
-      (subst (λ w. FellIn rules (formed rules (with_carry rules w) (each rules (replace_bit rules w) (zip x bits))) next after f) second.wires
-      (record { stopped = fell.stopped; failed = fell.failed; counted = fell.counted })))
+      (record { stopped = there.stopped; failed = there.failed; counted = there.counted; told = there.told })
 
   pub divide_step : (b : List W) (all : Divided W) (bit goes : W) (left : List W) (before after : Told rules.State) →
       Went rules (taken_away rules b bit all.rest) before after (record { carry = goes; bits = left }) →

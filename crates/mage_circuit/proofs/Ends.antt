@@ -105,7 +105,7 @@ module _ {W : Type 0} (rules : Rules W) where
   added_falls before mid after f pairs (next ∷ more) x y carry n split long first fell =
       let middle = closed_falls (add_bit rules) (add_last rules) (starting rules carry) (next ∷ more) n mid after f (omega arith) fell in
       rw split (fell_next rules (anded rules x y) (λ c. formed rules (λ (s : Carried W). rules.xor x y ∷ s.bits) (closed rules (add_bit rules) (add_last rules) (starting rules c) (next ∷ more))) before mid after carry f first
-      (record { stopped = middle.stopped; failed = middle.failed; counted = middle.counted }))
+      (record { stopped = middle.stopped; failed = middle.failed; counted = middle.counted; told = middle.told }))
 
   pub subtracted_went : (before mid after : Told rules.State) (pairs rest : List (W × W)) (x y p q carry : W) (so_far : Carried W) (n : ℕ) → pairs ≡ (x, y) ∷ rest → n + 1 ≡ length rest → drop n rest ≡ (p, q) ∷ [] →
       Went rules (first_carry rules (x, y)) before mid carry → Went rules (folded rules (subtract_bit rules) (starting rules carry) (take n rest)) mid after so_far →
@@ -129,7 +129,7 @@ module _ {W : Type 0} (rules : Rules W) where
   subtracted_falls before mid after f pairs (next ∷ more) x y carry n split long first fell =
       let middle = closed_falls (subtract_bit rules) (subtract_last rules) (starting rules carry) (next ∷ more) n mid after f (omega arith) fell in
       rw split (fell_next rules (first_carry rules (x, y)) (λ c. formed rules (λ (s : Carried W). rules.xor x y ∷ s.bits) (closed rules (subtract_bit rules) (subtract_last rules) (starting rules c) (next ∷ more))) before mid after carry f first
-      (record { stopped = middle.stopped; failed = middle.failed; counted = middle.counted }))
+      (record { stopped = middle.stopped; failed = middle.failed; counted = middle.counted; told = middle.told }))
 
   -- a difference with the carry of its last bit
   pub compared_went : (before mid after : Told rules.State) (pairs rest : List (W × W)) (x y carry : W) (so_far : Carried W) → pairs ≡ (x, y) ∷ rest →
@@ -148,7 +148,7 @@ module _ {W : Type 0} (rules : Rules W) where
       Went rules (first_carry rules (x, y)) before mid carry → FellIn rules (folded rules (subtract_bit rules) (starting rules carry) rest) mid after f → FellIn rules (compared rules pairs) before after f
   compared_falls before mid after f pairs rest x y carry split first fell =
       rw split (fell_next rules (first_carry rules (x, y)) (λ c. formed rules (below rules (rules.xor x y)) (folded rules (subtract_bit rules) (starting rules c) rest)) before mid after carry f first
-      (record { stopped = fell.stopped; failed = fell.failed; counted = fell.counted }))
+      (record { stopped = fell.stopped; failed = fell.failed; counted = fell.counted; told = fell.told }))
 
   -- the last step of a number to which a bit is added
   pub last_counted : (so_far : Carried W) (x : W) (told : Told rules.State) → told.standing ≡ standing.Running →

@@ -72,7 +72,7 @@ module _ {W I : Type 0} (rules : Rules W) (bit : I → Circuit rules W) where
       FellIn rules (each rules bit items) before after f
   each_falls before told after f items now item left rest goes split fell =
       goes_falls rules (one_more rules bit) [] before items now told after f item left rest goes split
-      (record { stopped = fell.stopped; failed = fell.failed; counted = fell.counted })
+      (record { stopped = fell.stopped; failed = fell.failed; counted = fell.counted; told = fell.told })
 
   pub each_end : (before told : Told rules.State) (items : List I) (out : List W) (i : ℕ) (left : List I) →
       Goes rules (one_more rules bit) [] before items (take i out) told left → left ≡ [] → length out ≤ i →
@@ -112,7 +112,7 @@ module _ {W : Type 0} (rules : Rules W) where
 
   -- the same where a step falls
   pub add_step_falls : (before after : Told rules.State) (so_far : Carried W) (x y : W) (f : DriverFault) → FellIn rules (carry_of rules x y so_far.carry) before after f → FellIn rules (add_bit rules so_far (x, y)) before after f
-  add_step_falls before after so_far x y f fell = record { stopped = fell.stopped; failed = fell.failed; counted = fell.counted }
+  add_step_falls before after so_far x y f fell = record { stopped = fell.stopped; failed = fell.failed; counted = fell.counted; told = fell.told }
 
   pub subtract_step_falls : (before after : Told rules.State) (so_far : Carried W) (x y turned : W) (f : DriverFault) → before.standing ≡ standing.Running → turned ≡ rules.not before.state y →
       FellIn rules (carry_of rules x turned so_far.carry) before after f → FellIn rules (subtract_bit rules so_far (x, y)) before after f
@@ -129,7 +129,7 @@ module _ {W : Type 0} (rules : Rules W) where
       (went_formed rules (λ (carry : W). record { carry = carry; bits = so_far.bits ++ rules.xor x so_far.carry ∷ [] }) (anded rules x so_far.carry) before after next went)
 
   pub count_step_falls : (before after : Told rules.State) (so_far : Carried W) (x : W) (f : DriverFault) → FellIn rules (anded rules x so_far.carry) before after f → FellIn rules (count_up rules so_far x) before after f
-  count_step_falls before after so_far x f fell = record { stopped = fell.stopped; failed = fell.failed; counted = fell.counted }
+  count_step_falls before after so_far x f fell = record { stopped = fell.stopped; failed = fell.failed; counted = fell.counted; told = fell.told }
 
   -- one circuit after another, in terms of what is answered
   pub leaves_followed : {X Y Z : Type 0} (first : Circuit rules X) (next : X → Circuit rules Y) (before mid after : Told rules.State) (x : X) (wires_of : Z → Y) (result : Result Z DriverFault) →
@@ -147,8 +147,9 @@ module _ {W : Type 0} (rules : Rules W) where
   pub leaves_at : {X Y : Type 0} (circuit circuit' : Circuit rules X) (before after : Told rules.State) (wires_of : Y → X) (result : Result Y DriverFault) →
       circuit before.state ≡ circuit' before.state → Leaves rules circuit before after wires_of result → Leaves rules circuit' before after wires_of result
   leaves_at {X} circuit circuit' before after wires_of (Ok y) same went = record {
-    passed = subst (λ (m : Made rules.State W X). NoneIsDue rules m.calls) same went.passed;
-    told = went.told ∙ ap (λ (m : Made rules.State W X). record { state = m.state; standing = standing.Running; faults = before.faults }) same;
-    wires = went.wires ∙ ap (λ (m : Made rules.State W X). m.wires) same;
+    passed = λ t. subst (λ (m : Made rules.State W X). NoneIsDue rules m.calls) same (went.passed t);
+    state = λ t. went.state t ∙ ap (λ (m : Made rules.State W X). m.state) same;
+    wires = λ t. went.wires t ∙ ap (λ (m : Made rules.State W X). m.wires) same;
+    rest = went.rest;
   }
   leaves_at {X} circuit circuit' before after wires_of (Err f) same fell = subst (λ (m : Made rules.State W X). Fell rules m.calls before f after) same fell

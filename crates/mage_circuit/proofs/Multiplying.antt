@@ -74,7 +74,7 @@ module _ {W : Type 0} (rules : Rules W) where
       fell_next rules (row rules (take (length (drop (i - 1) out) - 1) a) b)
       (λ l. formed rules (λ (s : List W). summed (take (i - 1) out ++ take 1 (drop (i - 1) out)) s) (added rules (zip (drop 1 (drop (i - 1) out)) l)))
       before mid after line f (subst (λ xs. Went rules (row rules xs b) before mid line) (sym parts.0) first)
-      (record { stopped = sum.stopped; failed = sum.failed; counted = sum.counted })
+      (record { stopped = sum.stopped; failed = sum.failed; counted = sum.counted; told = sum.told })
 
   -- the first row, and then the turns
   pub multiplied_went : (a b rest : List W) (bit : W) (line out : List W) (before mid after : Told rules.State) → b ≡ bit ∷ rest →
@@ -100,4 +100,4 @@ module _ {W : Type 0} (rules : Rules W) where
   multiplied_falls a b rest bit line before mid after f split first fell =
       rw split (fell_next rules (row rules a bit)
       (λ l. formed rules (λ (s : Summed W). s.done ++ s.sum) (folded rules (multiply_bit rules a) (record { done = []; sum = l }) rest)) before mid after line f first
-      (record { stopped = fell.stopped; failed = fell.failed; counted = fell.counted }))
+      (record { stopped = fell.stopped; failed = fell.failed; counted = fell.counted; told = fell.told }))

@@ -1,8 +1,10 @@
 -- The rules of the driver that counts its calls and stops at one of them.
-use Rattle.std.specs.Prelude.{◌≡◌, ℕ, ◌+◌, ◌==◌, [], Bool, false, not, ◌&&◌, Option, Some, None, if◌then◌else◌, replicate, slice_index, ◌%◌, ◌∷◌}
+use Rattle.std.specs.Prelude.{◌≡◌, ℕ, ◌+◌, ◌==◌, [], Bool, true, false, not, ◌&&◌, Option, Some, None, if◌then◌else◌, replicate, slice_index, ◌%◌, ◌∷◌}
 use Rattle.mage_instr.specs.declared.fault.DriverFault.TheVariants as fault
 use Rattle.mage_instr.specs.declared.fault.DriverFault.{DriverFault}
+use Rattle.mage_driver.specs.declared.standing.Standing.{Standing}
 use Rattle.mage_driver.specs.Rules.{Rules}
+use Rattle.mage_driver.specs.Calls.{Told}
 
 pub record Tally : Type 0 where
   -- how many calls were answered Ok, and how many will be
@@ -10,6 +12,15 @@ pub record Tally : Type 0 where
   pub last : ℕ
   -- how many of them were ANDs
   pub ands : ℕ
+
+-- the driver as its callers see it
+pub record TallyMoment : Type 0 where
+  pub state : Tally
+  pub standing : Standing
+
+-- what it tells: it has no source and no sink that could fail, and its state is always told
+abbrev pub told_of : TallyMoment → Told Tally
+told_of d = record { state = d.state; standing = d.standing; faults = 0; told = true }
 
 -- one call more
 abbrev pub called : Tally → Tally

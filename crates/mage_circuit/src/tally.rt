@@ -18,15 +18,13 @@ pub struct TallyDriver {
 
 impl Model for TallyDriver {
     ghost use Rattle.std.specs.Prelude.{◌≤◌};
-    ghost use Rattle.mage_driver.specs.Calls.{Told};
-    ghost use Rattle.mage_circuit.specs.Tally.{Tally};
+    ghost use Rattle.mage_circuit.specs.Tally.{TallyMoment};
 
-    ghost Value = { Told Tally };
+    ghost Value = { TallyMoment };
 
     ghost view = { λ d. record {
       state = record { calls = d.calls; last = d.last; ands = d.ands };
       standing = d.standing;
-      faults = 0;
     } };
 
     ghost invariant = { λ d. (d.ands ≤ d.calls) × (d.calls ≤ d.last) };
@@ -38,7 +36,6 @@ impl TallyDriver {
         ensures { result ≡ record {
           state = record { calls = 0; last = last; ands = 0 };
           standing = standing.Running;
-          faults = 0;
         } }
     {
         TallyDriver {
@@ -66,7 +63,7 @@ impl TallyDriver {
 
 impl Driver for TallyDriver {
     ghost use Rattle.std.specs.Prelude.{refl};
-    ghost use Rattle.mage_circuit.specs.Tally.{tally_rules};
+    ghost use Rattle.mage_circuit.specs.Tally.{tally_rules, told_of};
     ghost use Rattle.mage_circuit.specs.TallyLaws.{tally_is_lawful};
 
     type Wire = bool;
@@ -77,7 +74,7 @@ impl Driver for TallyDriver {
 
     ghost rules = { tally_rules };
 
-    ghost tells = { λ d. d };
+    ghost tells = { told_of };
 
     fn input(&mut self, _party: Party, into: &mut [bool]) -> Result<(), DriverFault> {
         if self.calls == self.last {

@@ -15,7 +15,7 @@ returns-in_err-carry g c =
     let last = length old - 1 in
     let start = starting g.D.Driver.rules c.args.bit in
     let fell = closed_falls g.D.Driver.rules (count_up g.D.Driver.rules) (count_last g.D.Driver.rules) start old last (g.D.Driver.tells c.args.driver.now) (g.D.Driver.tells c.count_up.new.driver) c.in_err-carry.field-0.0 refl c.in_err-carry.ensures in
-    rw (p.1, p.2) (record { stopped = fell.stopped; failed = fell.failed; counted = fell.counted })
+    rw (p.1, p.2) (record { stopped = fell.stopped; failed = fell.failed; counted = fell.counted; told = fell.told })
 
 pub returns : goal.returns
 returns g c =

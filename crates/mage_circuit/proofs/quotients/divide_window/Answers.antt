@@ -47,7 +47,7 @@ returns-in_err-goes g c =
     let fell = c.in_err-goes.ensures bit all.rest part in
     let turns : reverse (take (w - l.k) a) ≡ bit ∷ reverse (take place a) = ap (λ n. reverse (take n a)) next ∙ reverse_next a place none (omega arith) in
     rw (p.1, p.2) (goes_falls g.D.Driver.rules (divide_bit g.D.Driver.rules b) start before (reverse a) all told after f bit (reverse (take (w - l.k) a)) (reverse (take place a)) l.invariant.2 turns
-    (record { stopped = fell.stopped; failed = fell.failed; counted = fell.counted }))
+    (record { stopped = fell.stopped; failed = fell.failed; counted = fell.counted; told = fell.told }))
 
 pub loop-k-preserved : goal.loop-k-preserved
 loop-k-preserved g c =
