@@ -77,12 +77,12 @@ computes_made op.Min is = refl
 computes_made op.Max is = refl
 
 pub plain_bits : (o : Op) (width imm : ℕ) (first second third found : List Bool) (before after : Told Plain) (result : Result (Unit {0}) DriverFault) →
-    IsTrue (computes o) → WidthOk o width imm → length first ≡ 128 → length second ≡ 128 → length third ≡ 128 →
+    IsTrue before.told → IsTrue (computes o) → WidthOk o width imm → length first ≡ 128 → length second ≡ 128 → length third ≡ 128 →
     Leaves plain_rules (circuit_of plain_rules o width imm (take (width_of_arg o width imm 0) first) (take (width_of_arg o width imm 1) second) (take (width_of_arg o width imm 2) third))
     before after (λ _. found) result →
     (after.standing ≡ standing.Running)
     × (found ≡ bits (computed o width imm (number (take (width_of_arg o width imm 0) first)) (number (take (width_of_arg o width imm 1) second)) (number (take (width_of_arg o width imm 2) third))) (width_of_result o width))
-plain_bits o width imm first second third found before after (Ok _) is ok lf ls lt left =
+plain_bits o width imm first second third found before after (Ok _) told is ok lf ls lt left =
     let a = take (width_of_arg o width imm 0) first in
     let b = take (width_of_arg o width imm 1) second in
     let c = take (width_of_arg o width imm 2) third in
@@ -90,7 +90,7 @@ plain_bits o width imm first second third found before after (Ok _) is ok lf ls 
     let lb : length b ≡ width_of_arg o width imm 1 = omega (arith, length-take (width_of_arg o width imm 1) second, argument_fits o width imm 1 ok) in
     let lc : length c ≡ width_of_arg o width imm 2 = omega (arith, length-take (width_of_arg o width imm 2) third, argument_fits o width imm 2 ok) in (
       went_runs plain_rules (circuit_of plain_rules o width imm a b c) before after found left,
-      left.wires ∙ all_right o is width imm a b c before.state ok la lb lc,
+      left.wires told ∙ all_right o is width imm a b c before.state ok la lb lc,
     )
-plain_bits o width imm first second third found before after (Err f) is ok lf ls lt left =
-    absurd (no_stops _ f after.state left.stopped)
+plain_bits o width imm first second third found before after (Err f) told is ok lf ls lt left =
+    absurd (no_stops _ f after.state (left.stopped told))
