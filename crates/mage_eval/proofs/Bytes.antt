@@ -1,6 +1,6 @@
 -- Bytes that are taken from a source, and from what is held.
 use Rattle.std.proofs.Common.{◌≡◌, ◌≤◌, ℕ, zero, suc, ◌+◌, ◌-◌, ◌*◌, List, [], ◌∷◌, ◌++◌, Option, Some, None, length, take, drop, replicate, refl, sym, ap, ◌∙◌, append_assoc, length-drop, length-take, min, Bool, arith}
-use Rattle.std.specs.Prelude.{unwrap_or, IfSome, IsSomeAnd}
+use Rattle.std.specs.Prelude.{unwrap_or, is_some, IfSome, IsSomeAnd, IsTrue}
 use Rattle.std.proofs.Math.Seq.{take-append-add, drop-nil}
 use Rattle.std.proofs.lemmas.List.{take-append-le, drop-append-le, drop-take}
 use Rattle.std.proofs.lemmas.List.Edits.{take-paste}
@@ -9,7 +9,7 @@ use Rattle.mage_base.specs.Faults.{count_after, top}
 use Rattle.mage_base.specs.Source.{Moved}
 use Rattle.mage_label.specs.declared.labels.Label.{Label}
 use Rattle.mage_streams.specs.Evaluating.{next_label}
-use Rattle.mage_eval.specs.Reading.{Incoming, IsTold, after_bytes, after_labels, at_after_labels}
+use Rattle.mage_eval.specs.Reading.{Incoming, after_bytes, after_labels, at_after_labels}
 
 pub drop_drop : {X : Type 0} (a b : ℕ) (xs : List X) → drop b (drop a xs) ≡ drop (a + b) xs
 drop_drop zero b xs = let e : 0 + b ≡ b = omega arith in rw e refl
@@ -25,10 +25,10 @@ taken_bytes front piece others left left' n count size few moved =
     ∙ ap (λ (xs : List ℕ). front ++ xs ++ left') (take-append-le count piece others few)
     ∙ append_assoc front (take count piece) left' ∙ ap (λ (xs : List ℕ). front ++ xs) (sym moved)
 
-pub taken : (before after : Option (List ℕ)) (front piece others : List ℕ) (n count : ℕ) → IsTold before → n ≡ length front + count → count ≤ length piece →
+pub taken : (before after : Option (List ℕ)) (front piece others : List ℕ) (n count : ℕ) → IsTrue (is_some before) → n ≡ length front + count → count ≤ length piece →
     IfSome before (λ left. IsSomeAnd after (λ left'. Moved left left' piece count)) →
     take n (front ++ (piece ++ others)) ++ unwrap_or after [] ≡ front ++ unwrap_or before []
-taken None after front piece others n count told size few moved = absurd told
+taken None after front piece others n count told size few moved = cc told
 taken (Some left) None front piece others n count told size few moved = absurd moved
 taken (Some left) (Some left') front piece others n count told size few moved =
     taken_bytes front piece others left left' n count size few moved.bytes
@@ -46,7 +46,7 @@ read_held held others from to n within fits =
     ∙ sym (drop-append-le n (take (to - from) (drop from held)) others long)
 
 pub after_read : (s : Incoming) (n : ℕ) (left : List ℕ) (ready at : ℕ) → left ≡ drop n s.left → ready ≡ s.ready - n → at ≡ count_after s.at n →
-    ◌≡◌ {A = Incoming} (record { left = left; ready = ready; at = at; steady = s.steady; faults = s.faults }) (after_bytes s n)
+    ◌≡◌ {A = Incoming} (record { left = left; ready = ready; at = at; steady = s.steady; faults = s.faults; told = s.told }) (after_bytes s n)
 after_read s n left ready at a b c = rw (a, b, c) refl
 
 -- a label is read
@@ -82,9 +82,9 @@ compact held from to less fits =
     ap (λ (k : ℕ). take k (paste held 0 (drop from held) n)) (sym e) ∙ pasted
 
 -- more is held
-pub refilled : (left left' : List ℕ) (ready at : ℕ) (steady steady' : Bool) (faults faults' : ℕ) → left' ≡ left → steady' ≡ steady → faults' ≡ faults →
-    ◌≡◌ {A = Incoming} (record { left = left'; ready = ready; at = at; steady = steady'; faults = faults' }) (record { left = left; ready = ready; at = at; steady = steady; faults = faults })
-refilled left left' ready at steady steady' faults faults' a b c = rw (a, b, c) refl
+pub refilled : (left : List ℕ) (ready at : ℕ) (steady steady' : Bool) (faults faults' : ℕ) (told : Bool) → steady' ≡ steady → faults' ≡ faults →
+    ◌≡◌ {A = Incoming} (record { left = left; ready = ready; at = at; steady = steady'; faults = faults'; told = told }) (record { left = left; ready = ready; at = at; steady = steady; faults = faults; told = told })
+refilled left ready at steady steady' faults faults' told b c = rw (b, c) refl
 
 pub drop_next : {X : Type 0} (place count : ℕ) (xs : List X) → drop (suc count) (drop place xs) ≡ drop count (drop (place + 1) xs)
 drop_next place count xs =

@@ -1,12 +1,13 @@
 -- A stream that is read from a source, which is asked for more than is due at once.
-use Rattle.std.specs.Prelude.{◌≡◌, ◌≤◌, ℕ, zero, suc, ◌-◌, ◌*◌, nat_le, List, [], ◌∷◌, Bool, false, Option, Some, None, length, drop, if◌then◌else◌}
+use Rattle.std.specs.Prelude.{◌≡◌, ◌≤◌, ℕ, zero, suc, ◌-◌, ◌*◌, nat_le, List, [], ◌∷◌, Bool, false, IsTrue, Option, Some, None, is_some, length, drop, if◌then◌else◌}
 use Rattle.mage_base.specs.Faults.{Rose, count_after}
+use Rattle.mage_base.specs.Source.{SourceTold}
 use Rattle.mage_instr.specs.declared.fault.DriverFault.{DriverFault}
 use Rattle.mage_instr.specs.declared.fault.DriverFault.TheVariants as fault
 use Rattle.mage_label.specs.declared.labels.Label.{Label}
 
 pub record Incoming : Type 0 where
-  -- what is left of the stream, and how much of it is here already
+  -- what is left of the stream, where it is told, and how much of it is here already
   pub left : List ℕ
   pub ready : ℕ
   -- how many bytes were taken
@@ -14,11 +15,12 @@ pub record Incoming : Type 0 where
   -- whether the source never fails, and how often it has
   pub steady : Bool
   pub faults : ℕ
+  -- whether the source tells what it has left
+  pub told : Bool
 
--- a source tells what it has left
-abbrev pub IsTold : Option (List ℕ) → Type 0
-IsTold None = ⊥
-IsTold (Some bytes) = Unit {0}
+-- whether a source tells what it has left
+abbrev pub tells_left : SourceTold → Bool
+tells_left source = is_some source.left
 
 -- so many bytes are taken
 abbrev pub after_bytes : Incoming → (count : ℕ) → Incoming
@@ -36,17 +38,17 @@ short_at at left = fault.Short (count_after at (length left))
 abbrev pub wrong_piece : (count at : ℕ) → (left : List ℕ) → Option DriverFault
 wrong_piece count at left = if nat_le count (length left) then None else Some (short_at at left)
 
--- Why reading failed: the source did, or it is what is wrong with the stream.
+-- Why reading failed: the source did, or it is what is wrong with the stream, where that is told.
 abbrev pub Fails : (wrong : Option DriverFault) → (before after : Incoming) → DriverFault → Type 0
 Fails wrong before after fault.Source =
     (before.steady ≡ false) × (before.faults ≤ after.faults) × Rose before.faults after.faults
 Fails wrong before after fault.Sink = ⊥
 Fails wrong before after (fault.Short at) =
-    (wrong ≡ Some (fault.Short at)) × (after.faults ≡ before.faults)
+    (IsTrue before.told → wrong ≡ Some (fault.Short at)) × (after.faults ≡ before.faults)
 Fails wrong before after (fault.Long at) =
-    (wrong ≡ Some (fault.Long at)) × (after.faults ≡ before.faults)
+    (IsTrue before.told → wrong ≡ Some (fault.Long at)) × (after.faults ≡ before.faults)
 Fails wrong before after (fault.Colour at) =
-    (wrong ≡ Some (fault.Colour at)) × (after.faults ≡ before.faults)
+    (IsTrue before.told → wrong ≡ Some (fault.Colour at)) × (after.faults ≡ before.faults)
 
 -- a colour for each wire is due: a byte that is 0 or 1
 abbrev pub wrong_at_colours : List Label → (at : ℕ) → (left : List ℕ) → Option DriverFault
@@ -78,17 +80,19 @@ after_labels s count = record s {
   at = at_after_labels count s.at;
 }
 
--- a colour was read
+-- a colour was read; it is what the stream had, where that is told
 pub record ReadsColour (before after : Incoming) (colour : Bool) : Type 0 where
-  pub here : before.left ≡ (if colour then 1 else 0) ∷ after.left
+  pub here : IsTrue before.told → before.left ≡ (if colour then 1 else 0) ∷ after.left
   pub at : after.at ≡ count_after before.at 1
   pub steady : after.steady ≡ before.steady
   pub faults : after.faults ≡ before.faults
+  pub told : after.told ≡ before.told
 
--- a colour for each wire was read
+-- a colour for each wire was read; they are what the stream had, where that is told
 pub record ReadsColours (wires : List Label) (before after : Incoming) : Type 0 where
-  pub right : wrong_at_colours wires before.at before.left ≡ None
-  pub left : after.left ≡ drop (length wires) before.left
+  pub right : IsTrue before.told → wrong_at_colours wires before.at before.left ≡ None
+  pub left : IsTrue before.told → after.left ≡ drop (length wires) before.left
   pub at : after.at ≡ at_after_colours wires before.at
   pub steady : after.steady ≡ before.steady
   pub faults : after.faults ≡ before.faults
+  pub told : after.told ≡ before.told

@@ -2,7 +2,7 @@
 ghost use Rattle.std.specs.Prelude.{◌≡◌, ◌≤◌, ◌<◌, ◌^◌, [], IfErr, IfOk, OnOk, length, unwrap_or};
 ghost use Rattle.mage_driver.specs.declared.standing.Standing.TheVariants as standing;
 ghost use Rattle.mage_eval.specs.Rule.{evaluating_from};
-ghost use Rattle.mage_eval.specs.Reading.{IsTold};
+ghost use Rattle.mage_eval.specs.Reading.{tells_left};
 
 use crate::gates::evaluate_and;
 use crate::incoming::Stream;
@@ -57,6 +57,7 @@ impl<R: Source> Model for EvalDriver<R> {
       };
       standing = d.standing;
       faults = d.stream.faults;
+      told = d.stream.told;
     } };
 
     ghost invariant = { λ d. (d.taken ≤ length d.labels.items) × (d.gates < 2 ^ 63)
@@ -64,8 +65,9 @@ impl<R: Source> Model for EvalDriver<R> {
 }
 
 impl<R: Source> EvalDriver<R> {
-    /// A driver of a worker with the labels that were dealt to it, in order, which keeps this many outputs and reads a stream that
-    /// tells what it has left. `Memory` where there is none for the outputs; then the stream is handed back.
+    /// A driver of a worker with the labels that were dealt to it, in order, which keeps this many outputs and reads a stream. What
+    /// comes of the stream is told where the stream tells now what it has left. `Memory` where there is none for the outputs; then the
+    /// stream is handed back.
     pub fn make(
         alloc: Global,
         worker: u16,
@@ -73,11 +75,11 @@ impl<R: Source> EvalDriver<R> {
         outputs: u32,
         stream: R,
     ) -> Result<EvalDriver<R>, (R, Memory)>
-        requires { IsTold (R.tells stream).left }
         ensures made { IfOk result (λ driver. driver ≡ record {
           state = evaluating_from worker labels.items outputs (R.tells stream);
           standing = standing.Running;
           faults = (R.tells stream).faults;
+          told = tells_left (R.tells stream);
         }) }
         ensures back { IfErr result (λ failed. failed.0 ≡ stream) }
     {

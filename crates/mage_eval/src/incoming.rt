@@ -2,28 +2,38 @@
 ghost use Rattle.std.specs.Prelude.{◌≡◌, ◌≤◌, ◌<◌, nat_le, false, Option, length, take, unwrap_or, [], IfErr, IfOk, IsTrue, OnOk};
 ghost use Rattle.mage_base.specs.Faults.{count_after};
 ghost use Rattle.mage_instr.specs.declared.fault.DriverFault.{DriverFault};
-ghost use Rattle.mage_eval.specs.Reading.{Fails, IsTold, after_bytes, wrong_piece};
+ghost use Rattle.mage_eval.specs.Reading.{Fails, after_bytes, tells_left, wrong_piece};
 
 use crate::filling::fill;
 use mage_base::{Failed, Source};
 use mage_instr::DriverFault;
+use mage_mark::{Mark, Test};
 use std::marker::Model;
 
 /// How many bytes are held at most.
 pub(crate) const MOST_HELD: usize = 4096;
 
-/// Bytes that are taken from a source in larger pieces than are due. The source tells what it has left.
+// Whether a source tells what it has left.
+struct TellsLeft;
+
+impl<R: Source> Test<R> for TellsLeft {
+    ghost says = { λ source. tells_left (R.tells source) };
+}
+
+/// Bytes that are taken from a source in larger pieces than are due. Where the source told at first what it had left, it tells
+/// so still.
 pub(crate) struct Stream<R: Source> {
     source: R,
     held: [u8; MOST_HELD],
     from: usize,
     to: usize,
     at: u64,
+    told: Mark,
 }
 
 impl<R: Source> Model for Stream<R> {
-    ghost use Rattle.std.specs.Prelude.{◌≡◌, ◌≤◌, ◌-◌, ◌++◌, [], drop, take, unwrap_or};
-    ghost use Rattle.mage_eval.specs.Reading.{Incoming, IsTold};
+    ghost use Rattle.std.specs.Prelude.{◌≡◌, ◌≤◌, ◌-◌, ◌++◌, [], IsTrue, drop, take, unwrap_or};
+    ghost use Rattle.mage_eval.specs.Reading.{Incoming, tells_left};
 
     ghost Value = { Incoming };
 
@@ -33,39 +43,46 @@ impl<R: Source> Model for Stream<R> {
       at = s.at;
       steady = (R.tells s.source).steady;
       faults = (R.tells s.source).faults;
+      told = s.told.said;
     } };
 
-    ghost invariant = { λ s. IsTold (R.tells s.source).left × (s.from ≤ s.to) × (s.to ≤ 4096) };
+    ghost invariant = { λ s. (IsTrue s.told.said → IsTrue (tells_left (R.tells s.source))) × (s.from ≤ s.to) × (s.to ≤ 4096) };
 }
 
 impl<R: Source> Stream<R> {
     /// A stream of which nothing was read.
     pub(crate) fn make(source: R) -> Stream<R>
-        requires { IsTold (R.tells source).left }
         ensures { result ≡ record {
           left = unwrap_or (R.tells source).left [];
           ready = 0;
           at = 0;
           steady = (R.tells source).steady;
           faults = (R.tells source).faults;
+          told = tells_left (R.tells source);
         } }
     {
+        let told = Mark::of::<R, TellsLeft>(&source);
         Stream {
             source,
             held: [0; MOST_HELD],
             from: 0,
             to: 0,
             at: 0,
+            told,
         }
     }
 
     /// Takes bytes from the source until so many are here, or it has ended; and tells which.
     pub(crate) fn hold(&mut self, count: usize) -> Result<bool, DriverFault>
         requires { count ≤ 4096 }
-        ensures same { OnOk result (self.new ≡ record self.old { ready = self.new.ready }) }
-        ensures enough { IfOk result (λ enough. enough ≡ nat_le count (length self.old.left)) }
+        ensures rest { OnOk result (self.new ≡ record self.old { left = self.new.left; ready = self.new.ready }) }
+        ensures same { OnOk result (IsTrue self.old.told → self.new.left ≡ self.old.left) }
+        ensures enough { IfOk result (λ enough. IsTrue self.old.told → enough ≡ nat_le count (length self.old.left)) }
         ensures here { IfOk result (λ enough. IsTrue enough → count ≤ self.new.ready) }
-        ensures ended { IfOk result (λ enough. enough ≡ false → self.new.ready ≡ length self.old.left) }
+        ensures held { OnOk result (self.new.ready ≤ length self.new.left) }
+        ensures ended { IfOk result (λ enough. enough ≡ false → IsTrue self.old.told
+            → self.new.ready ≡ length self.old.left) }
+        ensures told { self.new.told ≡ self.old.told }
         ensures fails { (wrong : Option DriverFault) → IfErr result (λ f. Fails wrong self.old self.new f) }
     {
         if count <= self.to - self.from {
@@ -78,10 +95,14 @@ impl<R: Source> Stream<R> {
     fn refill(&mut self, count: usize) -> Result<bool, DriverFault>
         requires few { count ≤ 4096 }
         requires missing { self.old.ready < count }
-        ensures same { OnOk result (self.new ≡ record self.old { ready = self.new.ready }) }
-        ensures enough { IfOk result (λ enough. enough ≡ nat_le count (length self.old.left)) }
+        ensures rest { OnOk result (self.new ≡ record self.old { left = self.new.left; ready = self.new.ready }) }
+        ensures same { OnOk result (IsTrue self.old.told → self.new.left ≡ self.old.left) }
+        ensures enough { IfOk result (λ enough. IsTrue self.old.told → enough ≡ nat_le count (length self.old.left)) }
         ensures here { IfOk result (λ enough. IsTrue enough → count ≤ self.new.ready) }
-        ensures ended { IfOk result (λ enough. enough ≡ false → self.new.ready ≡ length self.old.left) }
+        ensures held { OnOk result (self.new.ready ≤ length self.new.left) }
+        ensures ended { IfOk result (λ enough. enough ≡ false → IsTrue self.old.told
+            → self.new.ready ≡ length self.old.left) }
+        ensures told { self.new.told ≡ self.old.told }
         ensures fails { (wrong : Option DriverFault) → IfErr result (λ f. Fails wrong self.old self.new f) }
     {
         self.held.copy_within(self.from..self.to, 0);
@@ -98,8 +119,10 @@ impl<R: Source> Stream<R> {
     pub(crate) fn begin(&mut self, count: usize) -> Result<(), DriverFault>
         requires { count ≤ 4096 }
         ensures here { OnOk result (count ≤ self.new.ready) }
-        ensures enough { OnOk result (count ≤ length self.old.left) }
-        ensures same { OnOk result (self.new ≡ record self.old { ready = self.new.ready }) }
+        ensures enough { OnOk result (count ≤ length self.new.left) }
+        ensures rest { OnOk result (self.new ≡ record self.old { left = self.new.left; ready = self.new.ready }) }
+        ensures same { OnOk result (IsTrue self.old.told → self.new.left ≡ self.old.left) }
+        ensures told { self.new.told ≡ self.old.told }
         ensures fails { IfErr result (λ f. Fails (wrong_piece count self.old.at self.old.left) self.old self.new f) }
     {
         match self.hold(count) {
@@ -147,6 +170,7 @@ impl<R: Source> Stream<R> {
             from: _,
             to: _,
             at: _,
+            told: _,
         } = self;
         source
     }

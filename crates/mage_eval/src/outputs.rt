@@ -1,5 +1,5 @@
 // The values of outputs, and the end of a stream.
-ghost use Rattle.std.specs.Prelude.{◌≡◌, ◌≤◌, ◌∷◌, List, None, length, drop, IfErr, IfOk, OnOk};
+ghost use Rattle.std.specs.Prelude.{◌≡◌, ◌≤◌, ◌∷◌, List, None, length, drop, IfErr, IfOk, IsTrue, OnOk};
 ghost use Rattle.mage_bits.specs.Bits.{number};
 ghost use Rattle.mage_label.specs.declared.labels.Label.{Label};
 ghost use Rattle.mage_halfgates.specs.HalfGates.{decoded_bit};
@@ -15,6 +15,7 @@ use mage_label::Label;
 // The colour that a stream has next.
 fn read_colour<R: Source>(stream: &mut Stream<R>) -> Result<bool, DriverFault>
     ensures read { IfOk result (λ colour. ReadsColour stream.old stream.new colour) }
+    ensures told { stream.new.told ≡ stream.old.told }
     ensures fails { (wire : Label) → (wires : List Label) → IfErr result
         (λ f. Fails (wrong_at_colours (wire ∷ wires) stream.old.at stream.old.left) stream.old stream.new f) }
 {
@@ -45,8 +46,10 @@ pub(crate) fn read_value<R: Source>(
     wires: &[Label],
 ) -> Result<u128, DriverFault>
     requires { length wires.now ≤ 128 }
-    ensures value { IfOk result (λ value. value ≡ number (decoded_bits wires.now stream.old.left)) }
+    ensures value { IfOk result (λ value. IsTrue stream.old.told
+        → value ≡ number (decoded_bits wires.now stream.old.left)) }
     ensures read { OnOk result (ReadsColours wires.now stream.old stream.new) }
+    ensures told { stream.new.told ≡ stream.old.told }
     ensures fails { IfErr result
         (λ f. Fails (wrong_at_colours wires.now stream.old.at stream.old.left) stream.old stream.new f) }
 {
@@ -62,8 +65,10 @@ pub(crate) fn read_value<R: Source>(
 
 /// That the stream has ended.
 pub(crate) fn read_end<R: Source>(stream: &mut Stream<R>) -> Result<(), DriverFault>
-    ensures ended { OnOk result (wrong_at_end stream.old.at stream.old.left ≡ None) }
-    ensures same { OnOk result (stream.new ≡ record stream.old { ready = stream.new.ready }) }
+    ensures ended { OnOk result (IsTrue stream.old.told → wrong_at_end stream.old.at stream.old.left ≡ None) }
+    ensures rest { OnOk result (stream.new ≡ record stream.old { left = stream.new.left; ready = stream.new.ready }) }
+    ensures same { OnOk result (IsTrue stream.old.told → stream.new.left ≡ stream.old.left) }
+    ensures told { stream.new.told ≡ stream.old.told }
     ensures fails { IfErr result
         (λ f. Fails (wrong_at_end stream.old.at stream.old.left) stream.old stream.new f) }
 {

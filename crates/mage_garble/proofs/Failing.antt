@@ -17,19 +17,20 @@ rose_for_sink (fault.Long at) before now is kept rose = kept
 rose_for_sink (fault.Colour at) before now is kept rose = kept
 
 pub fell : (ask : Ask Label) (before after : Told Garbling) (out : Outgoing) (f : DriverFault) →
-    f ≡ fault.Sink → Broke (record { sending = before.state.sending; faults = before.faults }) out →
+    f ≡ fault.Sink → Broke (record { sending = before.state.sending; faults = before.faults; told = before.told }) out →
     (reached garble_rules before.state ask).sending.stream ≡ before.state.sending.stream ++ before.state.sending.waiting →
-    after.state.sending ≡ out.sending → after.faults ≡ out.faults → after.standing ≡ standing.Failed f →
+    after.state.sending ≡ out.sending → after.faults ≡ out.faults → after.told ≡ out.told → after.standing ≡ standing.Failed f →
     Fell garble_rules (call_of garble_rules before.state ask ∷ []) before f after
-fell ask before after out f sink broke puts sending faults failed = record {
-  stopped = inl (record {
+fell ask before after out f sink broke puts sending faults told failed = record {
+  stopped = λ t. inl (record {
     sink = sink;
     puts = puts;
     failed = record {
-      front = (broke.failed.front.0, ap (λ (s : Sending). s.stream) sending ∙ broke.failed.front.1);
-      full = broke.failed.full;
+      front = ((broke.failed t).front.0, ap (λ (s : Sending). s.stream) sending ∙ (broke.failed t).front.1);
+      full = (broke.failed t).full;
     };
   });
   failed = failed;
   counted = rose_for_sink f before.faults after.faults sink (rw faults broke.kept) (rw faults broke.rose);
+  told = told ∙ broke.told;
 }

@@ -1,5 +1,5 @@
 -- Bytes on their way to a sink: some wait in a buffer, so that few calls of the sink are made.
-use Rattle.std.specs.Prelude.{◌≡◌, ◌≤◌, ◌<◌, ℕ, ◌+◌, ◌-◌, nat_le, List, [], ◌++◌, length, take, Option, Some, None, IfSome, option_map, unwrap_or, if◌then◌else◌}
+use Rattle.std.specs.Prelude.{◌≡◌, ◌≤◌, ◌<◌, ℕ, ◌+◌, ◌-◌, nat_le, List, [], ◌++◌, length, take, Bool, IsTrue, Option, Some, None, IfSome, is_some, option_map, unwrap_or, if◌then◌else◌}
 use Rattle.mage_base.specs.Faults.{Rose}
 use Rattle.mage_base.specs.Sink.{SinkTold}
 
@@ -11,21 +11,21 @@ pub record Sending : Type 0 where
   -- how many bytes it may still take, where it is steady
   pub room : Option ℕ
 
--- the same, with how often the sink has failed
+-- the same, with how often the sink has failed, and whether it tells what it has taken
 pub record Outgoing : Type 0 where
   pub sending : Sending
   pub faults : ℕ
+  pub told : Bool
 
--- a sink tells what it has taken
-abbrev pub IsTold : Option (List ℕ) → Type 0
-IsTold None = ⊥
-IsTold (Some bytes) = Unit {0}
+-- whether a sink tells what it has taken
+abbrev pub tells_taken : SinkTold → Bool
+tells_taken sink = is_some sink.taken
 
 -- how many bytes may wait
 abbrev pub most_waiting : ℕ
 most_waiting = 4096
 
--- a sink before anything waits for it
+-- a sink before anything waits for it; of one that doesn't tell what it has taken, the stream says nothing
 abbrev pub sending_to : SinkTold → Sending
 sending_to sink = record {
   stream = unwrap_or sink.taken [];
@@ -58,8 +58,9 @@ pub record HasFailed (before after : Sending) : Type 0 where
   pub front : (n : ℕ) × (after.stream ≡ before.stream ++ take n before.waiting)
   pub full : IfSome before.room (λ room. room < length before.waiting)
 
--- the same, and its count of faults rose
+-- the same where it is told, and its count of faults rose
 pub record Broke (before after : Outgoing) : Type 0 where
-  pub failed : HasFailed before.sending after.sending
+  pub failed : IsTrue before.told → HasFailed before.sending after.sending
+  pub told : after.told ≡ before.told
   pub kept : before.faults ≤ after.faults
   pub rose : Rose before.faults after.faults

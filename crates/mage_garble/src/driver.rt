@@ -1,5 +1,5 @@
 // The driver that garbles.
-ghost use Rattle.std.specs.Prelude.{◌≡◌, ◌≤◌, ◌<◌, ◌^◌, ◌∷◌, [], IfErr, IfOk, OnOk, drop, length, unwrap_or};
+ghost use Rattle.std.specs.Prelude.{◌≡◌, ◌≤◌, ◌<◌, ◌^◌, ◌∷◌, [], IfErr, IfOk, IsTrue, OnOk, drop, length, unwrap_or};
 ghost use Rattle.mage_instr.specs.Opcodes.{greatest_width};
 ghost use Rattle.mage_instr.specs.declared.party.Party.TheVariants as party;
 ghost use Rattle.mage_driver.specs.Calls.{Asked, Fell, Finish, Input, call_of};
@@ -7,7 +7,7 @@ ghost use Rattle.mage_streams.specs.Garbling.{inputs_of};
 ghost use Rattle.mage_driver.specs.declared.standing.Standing.TheVariants as standing;
 ghost use Rattle.mage_streams.specs.Numbers.{next_value};
 ghost use Rattle.mage_garble.specs.Rule.{garble_rules, garbling_from};
-ghost use Rattle.mage_garble.specs.Sending.{IsTold};
+ghost use Rattle.mage_garble.specs.Sending.{tells_taken};
 
 use crate::gates::garble_and;
 use crate::inputs::{NUMBERS, label_inputs, say_active, say_colours};
@@ -57,6 +57,7 @@ impl<K: Sink> Model for GarbleDriver<K> {
       };
       standing = d.standing;
       faults = d.out.faults;
+      told = d.out.told;
     } };
 
     ghost invariant = { λ d. (d.offset ≡ offset_of d.seed) × (d.taken ≤ length d.values.items)
@@ -64,8 +65,8 @@ impl<K: Sink> Model for GarbleDriver<K> {
 }
 
 impl<K: Sink> GarbleDriver<K> {
-    /// A driver of a worker with the garbler's values, in order, that says what it says to a sink which tells what it takes.
-    /// `Memory` where there is none for what waits; then the sink is handed back.
+    /// A driver of a worker with the garbler's values, in order, that says what it says to a sink. What the sink has taken is told
+    /// where the sink tells it now. `Memory` where there is none for what waits; then the sink is handed back.
     pub fn make(
         alloc: Global,
         seed: [u8; 32],
@@ -73,11 +74,11 @@ impl<K: Sink> GarbleDriver<K> {
         garbler: Vec<u128>,
         sink: K,
     ) -> Result<GarbleDriver<K>, (K, Memory)>
-        requires { IsTold (K.tells sink).taken }
         ensures made { IfOk result (λ driver. driver ≡ record {
           state = garbling_from seed worker garbler.items 0 0 (K.tells sink);
           standing = standing.Running;
           faults = (K.tells sink).faults;
+          told = tells_taken (K.tells sink);
         }) }
         ensures back { IfErr result (λ failed. failed.0 ≡ sink) }
     {
@@ -94,11 +95,11 @@ impl<K: Sink> GarbleDriver<K> {
         gates: u64,
         sink: K,
     ) -> Result<GarbleDriver<K>, (K, Memory)>
-        requires { IsTold (K.tells sink).taken }
         ensures made { IfOk result (λ driver. driver ≡ record {
           state = garbling_from seed worker garbler.items wires gates (K.tells sink);
           standing = standing.Running;
           faults = (K.tells sink).faults;
+          told = tells_taken (K.tells sink);
         }) }
         ensures back { IfErr result (λ failed. failed.0 ≡ sink) }
     {
@@ -121,7 +122,9 @@ impl<K: Sink> GarbleDriver<K> {
     /// Puts all that waits into the sink, so that it has taken all that was said so far.
     pub fn flush(&mut self) -> Result<(), DriverFault>
         requires { self.old.standing ≡ standing.Running }
-        ensures sent { OnOk result (self.new ≡ record self.old { state = garble_rules.finish self.old.state }) }
+        ensures sent { OnOk result (self.new ≡ record self.old { state = self.new.state }) }
+        ensures state { OnOk result (IsTrue self.old.told
+            → self.new.state ≡ garble_rules.finish self.old.state) }
         ensures stopped { IfErr result
             (λ f. Fell garble_rules (call_of garble_rules self.old.state Finish ∷ []) self.old f self.new) }
     {
@@ -134,9 +137,11 @@ impl<K: Sink> GarbleDriver<K> {
         }
     }
 
-    /// Hands the sink back: it has a front of what was said, and after `finish` or `flush` all of it.
+    /// Hands the sink back: it has a front of what was said, and after `finish` or `flush` all of it. One that told at first
+    /// what it had taken tells so still.
     pub fn close(self) -> K
         ensures stream { self.state.sending.stream ≡ unwrap_or (K.tells result).taken [] }
+        ensures told { IsTrue self.told → IsTrue (tells_taken (K.tells result)) }
         ensures faults { self.faults ≡ (K.tells result).faults }
     {
         let GarbleDriver {

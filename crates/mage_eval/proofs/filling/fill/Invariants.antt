@@ -1,13 +1,13 @@
 use Rattle.std.proofs.Common.{◌≡◌, ◌≤◌, ◌-◌, [], ◌++◌, length, take}
-use Rattle.std.specs.Prelude.{unwrap_or}
-use Rattle.mage_eval.specs.Reading.{IsTold}
+use Rattle.std.specs.Prelude.{unwrap_or, IsTrue}
+use Rattle.mage_eval.specs.Reading.{tells_left}
 use Rattle.mage_eval.proofs.filling.fill.Given as goal
 
 abbrev pub invariant-loop-now : goal.invariant-loop-now
 invariant-loop-now g l = record {
-  told : IsTold (g.R.Source.tells l.source).left;
+  told : IsTrue (tells_left (g.R.Source.tells l.initial.source)) → IsTrue (tells_left (g.R.Source.tells l.source));
   within : l.now ≤ length l.buffer;
-  same : take l.now l.buffer ++ unwrap_or (g.R.Source.tells l.source).left []
+  same : IsTrue (tells_left (g.R.Source.tells l.initial.source)) → take l.now l.buffer ++ unwrap_or (g.R.Source.tells l.source).left []
       ≡ take l.ready l.initial.buffer ++ unwrap_or (g.R.Source.tells l.initial.source).left [];
   faults : (g.R.Source.tells l.source).faults ≡ (g.R.Source.tells l.initial.source).faults;
   steady : (g.R.Source.tells l.source).steady ≡ (g.R.Source.tells l.initial.source).steady;

@@ -11,5 +11,5 @@ loop-zero-preserved g c =
     let more = one_more l.out.sending.waiting c.args.offset c.args.zeros.now l.zero-index l.left _ active less c.xor_times-active.ensures in
     record {
       fits = rw c.add.ensures (omega (arith, length-append l.out.sending.waiting active.bytes, long, l.invariant.fits, less));
-      said = rw c.add.ensures (ap (λ (ws : List ℕ). record { sending = record l.out.sending { waiting = ws }; faults = l.out.faults }) more ∙ l.invariant.said);
+      said = rw c.add.ensures (ap (λ (ws : List ℕ). record l.out { sending = record l.out.sending { waiting = ws } }) more ∙ l.invariant.said);
     }

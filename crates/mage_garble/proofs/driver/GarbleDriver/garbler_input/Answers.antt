@@ -15,7 +15,7 @@ returns-in-Err-clause-call g c =
     let long = length-given d.seed d.worker d.wires (length c.args.into.now) (next_value c.args.self.now.state.garbler.values) in
     rw (← c.self.view_is)
     (fell (Input party.Garbler (length c.args.into.now)) _ _ c.begin.new.self c.in-Err.fault c.in-Err.ensures.sink c.in-Err.ensures.broke
-    (ap (λ (n : ℕ). (with_room d.out.sending n).stream) (rw (← c.self.view_is) at long) ∙ ap (λ (s : Sending). s.stream) c.in-Err.ensures.puts) refl refl refl)
+    (ap (λ (n : ℕ). (with_room d.out.sending n).stream) (rw (← c.self.view_is) at long) ∙ ap (λ (s : Sending). s.stream) c.in-Err.ensures.puts) refl refl refl refl)
 
 pub returns-clause-call : goal.returns-clause-call
 returns-clause-call g c =
@@ -24,9 +24,7 @@ returns-clause-call g c =
     let garbler : Garbler = record { seed = d.seed; worker = d.worker; values = drop d.taken d.values.items; wires = d.wires; gates = d.gates } in
     let runs = rw (← c.self.view_is) at c.requires.running in
     let value = c.next_of-value.ensures.value ∙ ap (λ (xs : List ℕ). next_value (drop d.taken xs)) c.as_slice.ensures.value in
-    let place = ap (λ (xs : List ℕ). drop c.next_of-value.result.1 xs) (sym c.as_slice.ensures.value) ∙ c.next_of-value.ensures.place ∙ ap (λ (xs : List ℕ). drop 1 (drop d.taken xs)) c.as_slice.ensures.value in (
-      (refl, tt),
-      rw (← c.self.view_is)
-          (said_input garbler d.out c.begin.new.self c.say_active.new.out c.label_inputs.new.into d.offset n c.next_of-value.result.0 (drop c.next_of-value.result.1 d.values.items) d.standing
-          c.self.invariant.0 c.label_inputs.ensures c.label_inputs.auto.into value place runs c.in_default.ensures.room c.say_active.ensures),
-    )
+    let place = ap (λ (xs : List ℕ). drop c.next_of-value.result.1 xs) (sym c.as_slice.ensures.value) ∙ c.next_of-value.ensures.place ∙ ap (λ (xs : List ℕ). drop 1 (drop d.taken xs)) c.as_slice.ensures.value in
+    rw (← c.self.view_is)
+    (said_input garbler d.out c.begin.new.self c.say_active.new.out c.label_inputs.new.into d.offset n c.next_of-value.result.0 (drop c.next_of-value.result.1 d.values.items) d.standing
+    c.self.invariant.0 c.label_inputs.ensures c.label_inputs.auto.into value place runs c.in_default.ensures.room c.in_default.ensures.stream c.say_active.ensures)

@@ -14,4 +14,4 @@ returns-in-Err-clause-call g c =
     let long = length-tables (offset_of d.seed) d.worker d.gates c.args.a c.args.b (IsWhole-offset_of d.seed) whole in
     rw (← c.self.view_is)
     (fell (And c.args.a c.args.b) _ _ c.begin.new.self c.in-Err.fault c.in-Err.ensures.sink c.in-Err.ensures.broke
-    (ap (λ (n : ℕ). (with_room d.out.sending n).stream) long ∙ ap (λ (s : Sending). s.stream) c.in-Err.ensures.puts) refl refl refl)
+    (ap (λ (n : ℕ). (with_room d.out.sending n).stream) long ∙ ap (λ (s : Sending). s.stream) c.in-Err.ensures.puts) refl refl refl refl)
