@@ -2,8 +2,9 @@
 ghost use Rattle.std.specs.Prelude.{◌<◌};
 
 use crate::garbling::garbled;
+use crate::quiet::QuietSource;
 use crate::sum::run;
-use mage_base::MemSource;
+use mage_base::{MemSource, Source};
 use mage_eval::EvalDriver;
 use mage_instr::DriverFault;
 use mage_label::{Label, input_label, offset};
@@ -36,7 +37,14 @@ fn dealt(alloc: Global) -> Result<Vec<Label>, Fail> {
 
 // What the evaluator makes of a stream.
 fn evaluated(alloc: Global, stream: &[u8]) -> Result<(Result<(), DriverFault>, Vec<u128>), Fail> {
-    let source = MemSource::make(alloc, stream, &[])?;
+    evaluated_from(alloc, MemSource::make(alloc, stream, &[])?)
+}
+
+// The same, of any source.
+fn evaluated_from<R: Source + Drop>(
+    alloc: Global,
+    source: R,
+) -> Result<(Result<(), DriverFault>, Vec<u128>), Fail> {
     match EvalDriver::make(alloc, 0, dealt(alloc)?, 4, source) {
         Ok(mut driver) => {
             let result = run(&mut driver);
@@ -109,4 +117,28 @@ fn streams_that_are_not_what_is_due(rt: HostRuntime) -> Result<(), Fail> {
     stream.push(0)?;
     refused(&rt, alloc, stream.as_slice(), DriverFault::Long { at: 360 })?;
     discoloured(&rt, alloc, stream.as_mut_slice(), 352)
+}
+
+#[test]
+fn a_source_that_tells_nothing(rt: HostRuntime) -> Result<(), Fail> {
+    let (_, sink) = garbled(rt.alloc(), &[])?;
+    let source = MemSource::make(rt.alloc(), sink.taken(), &[])?;
+    let (result, outputs) = evaluated_from(rt.alloc(), QuietSource { source })?;
+    assert!(rt; result.is_ok());
+    assert_eq!(rt; outputs.as_slice(), [44].as_slice());
+    Ok(())
+}
+
+#[test]
+fn a_source_that_tells_nothing_ends_early(rt: HostRuntime) -> Result<(), Fail> {
+    let (_, sink) = garbled(rt.alloc(), &[])?;
+    let source = MemSource::make(
+        rt.alloc(),
+        &sink.taken()[..sink.taken().len().min(359)],
+        &[],
+    )?;
+    let (result, outputs) = evaluated_from(rt.alloc(), QuietSource { source })?;
+    assert_eq!(rt; result, Err(DriverFault::Short { at: 359 }));
+    assert_eq!(rt; outputs.len(), 0);
+    Ok(())
 }

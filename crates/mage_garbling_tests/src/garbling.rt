@@ -1,6 +1,7 @@
 // The stream of the sum of 200 and 100.
+use crate::quiet::QuietSink;
 use crate::sum::run;
-use mage_base::{Failed, MemSink, Sink};
+use mage_base::{MemSink, Sink};
 use mage_garble::GarbleDriver;
 use mage_instr::DriverFault;
 use sha2::{Digest, Sha256};
@@ -15,7 +16,14 @@ const STREAM: [u8; 32] = [
 
 /// What the garbler made of the sum, and what is in the sink.
 pub fn garbled(alloc: Global, fails: &[u64]) -> Result<(Result<(), DriverFault>, MemSink), Fail> {
-    let sink = MemSink::make(alloc, 360, fails)?;
+    garbled_into(alloc, MemSink::make(alloc, 360, fails)?)
+}
+
+// The same, over any sink.
+fn garbled_into<K: Sink + Drop>(
+    alloc: Global,
+    sink: K,
+) -> Result<(Result<(), DriverFault>, K), Fail> {
     let mut values = Vec::new(alloc);
     values.push(200)?;
     match GarbleDriver::make(alloc, [0; 32], 0, values, sink) {
@@ -41,5 +49,23 @@ fn a_sink_that_fails(rt: HostRuntime) -> Result<(), Fail> {
     let (result, sink) = garbled(rt.alloc(), &[0])?;
     assert_eq!(rt; result, Err(DriverFault::Sink));
     assert_eq!(rt; sink.taken().len(), 0);
+    Ok(())
+}
+
+#[test]
+fn a_sink_that_tells_nothing(rt: HostRuntime) -> Result<(), Fail> {
+    let sink = MemSink::make(rt.alloc(), 360, &[])?;
+    let (result, quiet) = garbled_into(rt.alloc(), QuietSink { sink })?;
+    assert!(rt; result.is_ok());
+    assert_eq!(rt; Sha256::digest(quiet.sink.taken()), STREAM);
+    Ok(())
+}
+
+#[test]
+fn a_sink_that_tells_nothing_fails(rt: HostRuntime) -> Result<(), Fail> {
+    let sink = MemSink::make(rt.alloc(), 360, &[0])?;
+    let (result, quiet) = garbled_into(rt.alloc(), QuietSink { sink })?;
+    assert_eq!(rt; result, Err(DriverFault::Sink));
+    assert_eq!(rt; quiet.sink.taken().len(), 0);
     Ok(())
 }

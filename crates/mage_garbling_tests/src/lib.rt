@@ -7,4 +7,6 @@ mod evaluating;
 #[cfg(test)]
 mod garbling;
 #[cfg(test)]
+mod quiet;
+#[cfg(test)]
 mod sum;
