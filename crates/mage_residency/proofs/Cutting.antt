@@ -16,50 +16,63 @@ use Rattle.mage_carry.specs.Carrying.{start, unless_broken, walked, broken_at, b
 use Rattle.mage_carry.proofs.Chains.{same_Some, then_some, provided_some}
 use Rattle.mage_residency.specs.Plain.{load, save, entry_done, all_done}
 use Rattle.mage_residency.proofs.Beside.{beside, job_beside}
-use Rattle.mage_residency.specs.Cut.{Doing, Resting, Reading, Writing, Flight, at_rest, is_for, page_in, put, flight_after, IsFree, IsInTurn, AreInTurn, plain_entry, plainly, CutTransfersCarry}
+use Rattle.mage_sched.specs.declared.slot.Slot.{Slot as Doing}
+use Rattle.mage_sched.specs.declared.slot.Slot.TheVariants as state
+use Rattle.mage_sched.specs.Issues.{put}
+use Rattle.mage_sched.specs.Turns.{Flight, at_rest, is_for, stored_by, flight_after, IsFree, IsInTurn, AreInTurn}
+use Rattle.mage_sched.specs.Plainly.{page_of, plain_entry, plainly}
+use Rattle.mage_sched.specs.Scheduled.{IsBelow, AreBelow}
+use Rattle.mage_residency.specs.Cut.{CutTransfersCarry}
 
 -- what a slot of the walk is doing
 abbrev pub doing : Slot → Doing
-doing Idle = Resting
-doing (Reads page) = Reading page
-doing (Writes page content) = Writing page
+doing Idle = state.Idle
+doing (Reads page) = state.Reads page
+doing (Writes page content) = state.Writes page
 
 given : {A : Type 0} (b : Bool) (x : A) → b ≡ true → provided b x ≡ Some x
 given b x h = rw h refl
 
 -- kinds of slots
 
-is_resting : (x : Slot) → doing x ≡ Resting → is_idle x ≡ true
+is_resting : (x : Slot) → doing x ≡ state.Idle → is_idle x ≡ true
 is_resting Idle h = refl
 is_resting (Reads page) h = absurd (cc)
 is_resting (Writes page content) h = absurd (cc)
 
-is_reading : (x : Slot) (page : ℕ) → doing x ≡ Reading page → x ≡ Reads page
+is_reading : (x : Slot) (page : ℕ) → doing x ≡ state.Reads page → x ≡ Reads page
 is_reading Idle page h = absurd (cc)
-is_reading (Reads other) page h = ap Reads (ap page_in h)
+is_reading (Reads other) page h = ap Reads (ap page_of h)
 is_reading (Writes other content) page h = absurd (cc)
 
-is_writing : (x : Slot) (page : ℕ) → doing x ≡ Writing page → (content : Content) × (x ≡ Writes page content)
+is_writing : (x : Slot) (page : ℕ) → doing x ≡ state.Writes page → (content : Content) × (x ≡ Writes page content)
 is_writing Idle page h = absurd (cc)
 is_writing (Reads other) page h = absurd (cc)
-is_writing (Writes other content) page h = (content, ap (λ q. Writes q content) (ap page_in h))
+is_writing (Writes other content) page h = (content, ap (λ q. Writes q content) (ap page_of h))
 
-names-doing : (page : ℕ) (x : Slot) → names page x ≡ is_for page (doing x)
+same_test : (a b : ℕ) → nat_eq a b ≡ nat_eq b a
+same_test a b = go (nat_eq a b) (nat_eq b a) refl refl where
+  go : (x y : Bool) → nat_eq a b ≡ x → nat_eq b a ≡ y → nat_eq a b ≡ nat_eq b a
+  go true y e f = e ∙ sym (eq-eqb b a (sym (eqb-true a b e)))
+  go false true e f = eq-eqb a b (sym (eqb-true b a f)) ∙ sym f
+  go false false e f = e ∙ sym f
+
+names-doing : (page : ℕ) (x : Slot) → names page x ≡ is_for (doing x) page
 names-doing page Idle = refl
-names-doing page (Reads other) = refl
-names-doing page (Writes other content) = refl
+names-doing page (Reads other) = same_test page other
+names-doing page (Writes other content) = same_test page other
 
-none_names : (page : ℕ) (xs : List Slot) → ((i : ℕ) → is_for page (doing (get_or xs i Idle)) ≡ false) → list_any (names page) xs ≡ false
+none_names : (page : ℕ) (xs : List Slot) → ((i : ℕ) → is_for (doing (get_or xs i Idle)) page ≡ false) → list_any (names page) xs ≡ false
 none_names page [] h = refl
 none_names page (x ∷ xs) h = rw (names-doing page x, h 0) (none_names page xs (λ i. h (suc i)))
 
-resting_not_writing : (q : ℕ) → Resting ≢ Writing q
+resting_not_writing : (q : ℕ) → state.Idle ≢ state.Writes q
 resting_not_writing q h = cc
 
-reading_not_writing : (page q : ℕ) → Reading page ≢ Writing q
+reading_not_writing : (page q : ℕ) → state.Reads page ≢ state.Writes q
 reading_not_writing page q h = cc
 
-resting_not_reading : (q : ℕ) → Resting ≢ Reading q
+resting_not_reading : (q : ℕ) → state.Idle ≢ state.Reads q
 resting_not_reading q h = cc
 
 idle_not_writes : (q : ℕ) (content : Content) → Idle ≢ Writes q content
@@ -98,30 +111,30 @@ new_or_old : (slots : List Slot) (slot : ℕ) (x y : Slot) (i : ℕ) → slot < 
 new_or_old slots slot x y i within is = ⊎_elim (λ e. inl (e, sym (get_or-set_same slots slot x Idle within) ∙ ap (λ n. get_or (set slots slot x) n Idle) e ∙ is)) (λ ne. inr (ne, sym (get_or-set_other slots slot i x Idle (λ e. ne (sym e))) ∙ is)) (cases_eq slot i)
 
 abbrev AreApart : (ℕ → Doing) → Type 0
-AreApart does = (i j q : ℕ) → is_for q (does i) ≡ true → is_for q (does j) ≡ true → i ≡ j
+AreApart does = (i j q : ℕ) → is_for (does i) q ≡ true → is_for (does j) q ≡ true → i ≡ j
 
-apart_put : (does : ℕ → Doing) (slot : ℕ) (y : Doing) → ((q : ℕ) → is_for q y ≡ true → (other : ℕ) → is_for q (does other) ≡ false) → AreApart does → AreApart (put slot y does)
+apart_put : (does : ℕ → Doing) (slot : ℕ) (y : Doing) → ((q : ℕ) → is_for y q ≡ true → (other : ℕ) → is_for (does other) q ≡ false) → AreApart does → AreApart (put slot y does)
 apart_put does slot y alone apart i j q for_i for_j = ⊎_elim (λ e. ⊎_elim (λ f. sym e ∙ f) (λ nf. absurd (first e nf)) (cases_eq slot j)) (λ ne. ⊎_elim (λ f. absurd (second ne f)) (third ne) (cases_eq slot j)) (cases_eq slot i) where
   first : slot ≡ i → slot ≢ j → ⊥
   first e nf =
-      let new : is_for q y ≡ true = ap (is_for q) (sym (put_here slot y does i e)) ∙ for_i in
-      let old : is_for q (does j) ≡ true = ap (is_for q) (sym (put_there slot y does j nf)) ∙ for_j in
+      let new : is_for y q ≡ true = ap (λ (x : Doing). is_for x q) (sym (put_here slot y does i e)) ∙ for_i in
+      let old : is_for (does j) q ≡ true = ap (λ (x : Doing). is_for x q) (sym (put_there slot y does j nf)) ∙ for_j in
       false≢true (sym (alone q new j) ∙ old)
 
   second : slot ≢ i → slot ≡ j → ⊥
   second ne f =
-      let new : is_for q y ≡ true = ap (is_for q) (sym (put_here slot y does j f)) ∙ for_j in
-      let old : is_for q (does i) ≡ true = ap (is_for q) (sym (put_there slot y does i ne)) ∙ for_i in
+      let new : is_for y q ≡ true = ap (λ (x : Doing). is_for x q) (sym (put_here slot y does j f)) ∙ for_j in
+      let old : is_for (does i) q ≡ true = ap (λ (x : Doing). is_for x q) (sym (put_there slot y does i ne)) ∙ for_i in
       false≢true (sym (alone q new i) ∙ old)
 
   third : slot ≢ i → slot ≢ j → i ≡ j
-  third ne nf = apart i j q (ap (is_for q) (sym (put_there slot y does i ne)) ∙ for_i) (ap (is_for q) (sym (put_there slot y does j nf)) ∙ for_j)
+  third ne nf = apart i j q (ap (λ (x : Doing). is_for x q) (sym (put_there slot y does i ne)) ∙ for_i) (ap (λ (x : Doing). is_for x q) (sym (put_there slot y does j nf)) ∙ for_j)
 
-resting_alone : (does : ℕ → Doing) (q : ℕ) → is_for q Resting ≡ true → (other : ℕ) → is_for q (does other) ≡ false
+resting_alone : (does : ℕ → Doing) (q : ℕ) → is_for state.Idle q ≡ true → (other : ℕ) → is_for (does other) q ≡ false
 resting_alone does q h = absurd (false≢true h)
 
 -- a page that no slot writes then was written by none before, but for the slot that was set
-unwritten : (does : ℕ → Doing) (slot : ℕ) (y : Doing) (q : ℕ) → does slot ≢ Writing q → ((i : ℕ) → put slot y does i ≢ Writing q) → (i : ℕ) → does i ≢ Writing q
+unwritten : (does : ℕ → Doing) (slot : ℕ) (y : Doing) (q : ℕ) → does slot ≢ state.Writes q → ((i : ℕ) → put slot y does i ≢ state.Writes q) → (i : ℕ) → does i ≢ state.Writes q
 unwritten does slot y q differs none i is = ⊎_elim (λ e. differs (ap does e ∙ is)) (λ ne. none i (put_there slot y does i ne ∙ is)) (cases_eq slot i)
 
 module _ (buffer store wires : ℕ) (instrs : List Instr) where
@@ -133,7 +146,7 @@ module _ (buffer store wires : ℕ) (instrs : List Instr) where
     each : (i : ℕ) → doing (get_or s.slots i Idle) ≡ flight.does i
     stored : (q : ℕ) → is_some (s.pages q) ≡ flight.stored q
     written : (i q : ℕ) (content : Content) → get_or s.slots i Idle ≡ Writes q content → p.pages q ≡ Some content
-    others : (q : ℕ) → ((i : ℕ) → flight.does i ≢ Writing q) → p.pages q ≡ s.pages q
+    others : (q : ℕ) → ((i : ℕ) → flight.does i ≢ state.Writes q) → p.pages q ≡ s.pages q
     apart : AreApart flight.does
 
   -- one directive
@@ -163,28 +176,26 @@ module _ (buffer store wires : ℕ) (instrs : List Instr) where
         subst (λ x. IsCut flight (with_frame f nothing s) x) both.1 (framed flight s p f nothing c),
       )
 
-  within : (flight : Flight) (s p : State) (slot : ℕ) → IsCut flight s p → flight.does slot ≢ Resting → slot < length s.slots
+  within : (flight : Flight) (s p : State) (slot : ℕ) → IsCut flight s p → flight.does slot ≢ state.Idle → slot < length s.slots
   within flight s p slot c busy = ⊎_elim (λ l. l) (λ past. absurd (busy (sym (c.each slot) ∙ ap doing (get_or_past s.slots slot Idle past)))) (cases_lt slot (length s.slots))
 
-  may : (flight : Flight) (s p : State) (slot page : ℕ) → IsCut flight s p → IsFree buffer store flight slot page → may_issue store slot page s.slots ≡ true
-  may flight s p slot page c free =
+  may : (flight : Flight) (s p : State) (slot page : ℕ) → IsCut flight s p → IsFree buffer flight slot page → page < store → may_issue store slot page s.slots ≡ true
+  may flight s p slot page c free below =
       let long = c.slots in
       let inside : slot < length s.slots = let l = free.within in omega (arith, l, long) in
-      let idle : has is_idle (slice_get s.slots slot) ≡ true = ap (has is_idle) (slice_get-get_or s.slots slot Idle inside) ∙ is_resting (get_or s.slots slot Idle) (c.each slot ∙ free.rests) in
-      let named : list_any (names page) s.slots ≡ false = none_names page s.slots (λ i. ap (is_for page) (c.each i) ∙ free.alone i) in
-      and_from (has is_idle (slice_get s.slots slot)) (may_name store page s.slots) idle (and_from (ltb page store) (not (list_any (names page) s.slots)) (lt-ltb page store free.stored) (ap not named))
+      let idle : has is_idle (slice_get s.slots slot) ≡ true = ap (has is_idle) (slice_get-get_or s.slots slot Idle inside) ∙ is_resting (get_or s.slots slot Idle) (c.each slot ∙ free.idle) in
+      let named : list_any (names page) s.slots ≡ false = none_names page s.slots (λ i. ap (λ (x : Doing). is_for x page) (c.each i) ∙ free.alone i) in
+      and_from (has is_idle (slice_get s.slots slot)) (may_name store page s.slots) idle (and_from (ltb page store) (not (list_any (names page) s.slots)) (lt-ltb page store below) (ap not named))
 
-  alone_for : (flight : Flight) (slot page : ℕ) → IsFree buffer store flight slot page → (q : ℕ) → nat_eq q page ≡ true → (other : ℕ) → is_for q (flight.does other) ≡ false
-  alone_for flight slot page free q same other = ap (λ n. is_for n (flight.does other)) (same_page q page same) ∙ free.alone other where
-    same_page : (a b : ℕ) → nat_eq a b ≡ true → a ≡ b
-    same_page a b h = eqb-true a b h
+  alone_for : (flight : Flight) (slot page : ℕ) → IsFree buffer flight slot page → (q : ℕ) → nat_eq page q ≡ true → (other : ℕ) → is_for (flight.does other) q ≡ false
+  alone_for flight slot page free q same other = ap (λ n. is_for (flight.does other) n) (sym (eqb-true page q same)) ∙ free.alone other
 
-  goes_issue_in : (flight : Flight) (s p : State) (slot page : ℕ) → IsCut flight s p → IsFree buffer store flight slot page → flight.stored page ≡ true → Goes (directive.IssueIn slot page) flight s p
-  goes_issue_in flight s p slot page c free was =
+  goes_issue_in : (flight : Flight) (s p : State) (slot page : ℕ) → IsCut flight s p → IsFree buffer flight slot page → page < store → flight.stored page ≡ true → Goes (directive.IssueIn slot page) flight s p
+  goes_issue_in flight s p slot page c free below was =
       let long = c.slots in
       let inside : slot < length s.slots = let l = free.within in omega (arith, l, long) in (
         with_slot slot (Reads page) s,
-        given (may_issue store slot page s.slots && is_some (s.pages page)) (with_slot slot (Reads page) s) (and_from (may_issue store slot page s.slots) (is_some (s.pages page)) (may flight s p slot page c free) (c.stored page ∙ was)),
+        given (may_issue store slot page s.slots && is_some (s.pages page)) (with_slot slot (Reads page) s) (and_from (may_issue store slot page s.slots) (is_some (s.pages page)) (may flight s p slot page c free below) (c.stored page ∙ was)),
         record {
           frames = c.frames;
           next = c.next;
@@ -192,15 +203,15 @@ module _ (buffer store wires : ℕ) (instrs : List Instr) where
           each = each_set s.slots flight.does slot (Reads page) inside c.each;
           stored = c.stored;
           written = λ i q content is. ⊎_elim (λ new. absurd (reads_not_writes page q content new.1)) (λ old. c.written i q content old.1) (new_or_old s.slots slot (Reads page) (Writes q content) i inside is);
-          others = λ q none. c.others q (unwritten flight.does slot (Reading page) q (λ e. resting_not_writing q (sym free.rests ∙ e)) none);
-          apart = apart_put flight.does slot (Reading page) (alone_for flight slot page free) c.apart;
+          others = λ q none. c.others q (unwritten flight.does slot (state.Reads page) q (λ e. resting_not_writing q (sym free.idle ∙ e)) none);
+          apart = apart_put flight.does slot (state.Reads page) (alone_for flight slot page free) c.apart;
         },
       )
 
   finish_in_is : (s : State) (slot frame page : ℕ) (content : Content) → page_read slot s.slots ≡ Some page → s.pages page ≡ Some content → ltb frame (length s.frames) ≡ true → finish_in slot frame s ≡ Some (with_slot slot Idle (with_frame frame content s))
   finish_in_is s slot frame page content reads is inside = rw (reads, is, inside) refl
 
-  goes_finish_in : (flight : Flight) (s p after : State) (slot frame page : ℕ) → IsCut flight s p → flight.does slot ≡ Reading page → load frame page p ≡ Some after → Goes (directive.FinishIn slot frame) flight s after
+  goes_finish_in : (flight : Flight) (s p after : State) (slot frame page : ℕ) → IsCut flight s p → flight.does slot ≡ state.Reads page → load frame page p ≡ Some after → Goes (directive.FinishIn slot frame) flight s after
   goes_finish_in flight s p after slot frame page c reads h =
       let loaded = then_some (p.pages page) (λ content. provided (ltb frame (length p.frames)) (with_frame frame content p)) after h in
       let both = provided_some (ltb frame (length p.frames)) (with_frame frame loaded.0 p) after loaded.2 in
@@ -216,9 +227,9 @@ module _ (buffer store wires : ℕ) (instrs : List Instr) where
       reads_page : (slots : List Slot) (slot page : ℕ) → slot < length slots → get_or slots slot Idle ≡ Reads page → page_read slot slots ≡ Some page
       reads_page slots slot page inside is = rw (slice_get-get_or slots slot Idle inside, is) refl
 
-      unread : (i : ℕ) → flight.does i ≡ Writing page → ⊥
+      unread : (i : ℕ) → flight.does i ≡ state.Writes page → ⊥
       unread i writes =
-          let same : i ≡ slot = c.apart i slot page (ap (is_for page) writes ∙ eq-eqb page page refl) (ap (is_for page) reads ∙ eq-eqb page page refl) in
+          let same : i ≡ slot = c.apart i slot page (ap (λ (x : Doing). is_for x page) writes ∙ eq-eqb page page refl) (ap (λ (x : Doing). is_for x page) reads ∙ eq-eqb page page refl) in
           reading_not_writing page page (sym reads ∙ ap flight.does (sym same) ∙ writes)
 
       cut : slot < length s.slots → (content : Content) → IsCut (flight_after (directive.FinishIn slot frame) flight) (with_slot slot Idle (with_frame frame content s)) (with_frame frame content p)
@@ -229,20 +240,20 @@ module _ (buffer store wires : ℕ) (instrs : List Instr) where
         each = each_set s.slots flight.does slot Idle inside c.each;
         stored = c.stored;
         written = λ i q other is. ⊎_elim (λ new. absurd (idle_not_writes q other new.1)) (λ old. c.written i q other old.1) (new_or_old s.slots slot Idle (Writes q other) i inside is);
-        others = λ q none. c.others q (unwritten flight.does slot Resting q (λ e. reading_not_writing page q (sym reads ∙ e)) none);
-        apart = apart_put flight.does slot Resting (resting_alone flight.does) c.apart;
+        others = λ q none. c.others q (unwritten flight.does slot state.Idle q (λ e. reading_not_writing page q (sym reads ∙ e)) none);
+        apart = apart_put flight.does slot state.Idle (resting_alone flight.does) c.apart;
       }
 
   issue_out_is : (s : State) (slot frame page : ℕ) (content : Content) → slice_get s.frames frame ≡ Some content → may_issue store slot page s.slots ≡ true → issue_out store slot frame page s ≡ Some (with_slot slot (Writes page content) s)
   issue_out_is s slot frame page content is free = rw (is, free) refl
 
-  goes_issue_out : (flight : Flight) (s p after : State) (slot frame page : ℕ) → IsCut flight s p → IsFree buffer store flight slot page → save frame page p ≡ Some after → Goes (directive.IssueOut slot frame page) flight s after
-  goes_issue_out flight s p after slot frame page c free h =
+  goes_issue_out : (flight : Flight) (s p after : State) (slot frame page : ℕ) → IsCut flight s p → IsFree buffer flight slot page → page < store → save frame page p ≡ Some after → Goes (directive.IssueOut slot frame page) flight s after
+  goes_issue_out flight s p after slot frame page c free below h =
       let saved = then_some (slice_get p.frames frame) (λ content. Some (with_page page content p)) after h in
       let long = c.slots in
       let inside : slot < length s.slots = let l = free.within in omega (arith, l, long) in (
         with_slot slot (Writes page saved.0) s,
-        issue_out_is s slot frame page saved.0 (ap (λ xs. slice_get xs frame) c.frames ∙ saved.1) (may flight s p slot page c free),
+        issue_out_is s slot frame page saved.0 (ap (λ xs. slice_get xs frame) c.frames ∙ saved.1) (may flight s p slot page c free below),
         subst (λ x. IsCut (flight_after (directive.IssueOut slot frame page) flight) (with_slot slot (Writes page saved.0) s) x) (same_Some (with_page page saved.0 p) after saved.2) (cut inside saved.0),
       )
     where
@@ -250,17 +261,17 @@ module _ (buffer store wires : ℕ) (instrs : List Instr) where
       written_then content inside i q other is = by_slot (new_or_old s.slots slot (Writes page content) (Writes q other) i inside is) where
         by_slot : ((slot ≡ i) × (Writes page content ≡ Writes q other)) ⊎ ((slot ≢ i) × (get_or s.slots i Idle ≡ Writes q other)) → got page content p.pages q ≡ Some other
         by_slot (inl new) =
-            let same : page ≡ q = ap (λ (x : Slot). page_in (doing x)) new.1 in
+            let same : page ≡ q = ap (λ (x : Slot). page_of (doing x)) new.1 in
             rw (eq-eqb page q same) (ap Some (same_content page q content other new.1))
         by_slot (inr old) =
-            let writes : Writing q ≡ flight.does i = ap doing (sym old.1) ∙ c.each i in
-            let other_page : page ≢ q = λ e. false≢true (sym (free.alone i) ∙ ap (is_for page) (sym writes) ∙ eq-eqb page q e) in
+            let writes : state.Writes q ≡ flight.does i = ap doing (sym old.1) ∙ c.each i in
+            let other_page : page ≢ q = λ e. false≢true (sym (free.alone i) ∙ ap (λ (x : Doing). is_for x page) (sym writes) ∙ eq-eqb q page (sym e)) in
             rw (ne_eqb page q other_page) (c.written i q other old.1)
 
-      others_then : (content : Content) (q : ℕ) → ((i : ℕ) → put slot (Writing page) flight.does i ≢ Writing q) → got page content p.pages q ≡ s.pages q
+      others_then : (content : Content) (q : ℕ) → ((i : ℕ) → put slot (state.Writes page) flight.does i ≢ state.Writes q) → got page content p.pages q ≡ s.pages q
       others_then content q none = ⊎_elim
-          (λ e. absurd (none slot (put_here slot (Writing page) flight.does slot refl ∙ ap Writing e)))
-          (λ ne. rw (ne_eqb page q ne) (c.others q (unwritten flight.does slot (Writing page) q (λ e. resting_not_writing q (sym free.rests ∙ e)) none)))
+          (λ e. absurd (none slot (put_here slot (state.Writes page) flight.does slot refl ∙ ap state.Writes e)))
+          (λ ne. rw (ne_eqb page q ne) (c.others q (unwritten flight.does slot (state.Writes page) q (λ e. resting_not_writing q (sym free.idle ∙ e)) none)))
           (cases_eq page q)
 
       cut : slot < length s.slots → (content : Content) → IsCut (flight_after (directive.IssueOut slot frame page) flight) (with_slot slot (Writes page content) s) (with_page page content p)
@@ -272,28 +283,28 @@ module _ (buffer store wires : ℕ) (instrs : List Instr) where
         stored = c.stored;
         written = written_then content inside;
         others = others_then content;
-        apart = apart_put flight.does slot (Writing page) (alone_for flight slot page free) c.apart;
+        apart = apart_put flight.does slot (state.Writes page) (alone_for flight slot page free) c.apart;
       }
 
   finish_out_is : (s : State) (slot page : ℕ) (content : Content) → slot < length s.slots → get_or s.slots slot Idle ≡ Writes page content → finish_out slot s ≡ Some (with_slot slot Idle (with_page page content s))
   finish_out_is s slot page content inside is = rw (slice_get-get_or s.slots slot Idle inside, is) refl
 
-  goes_finish_out : (flight : Flight) (s p : State) (slot page : ℕ) → IsCut flight s p → flight.does slot ≡ Writing page → Goes (directive.FinishOut slot) flight s p
+  goes_finish_out : (flight : Flight) (s p : State) (slot page : ℕ) → IsCut flight s p → flight.does slot ≡ state.Writes page → Goes (directive.FinishOut slot) flight s p
   goes_finish_out flight s p slot page c writes =
       let inside = within flight s p slot c (λ e. resting_not_writing page (sym e ∙ writes)) in
       let found = is_writing (get_or s.slots slot Idle) page (c.each slot ∙ writes) in
       (with_slot slot Idle (with_page page found.0 s), finish_out_is s slot page found.0 inside found.1, cut inside found.0 found.1)
     where
-      stored_then : (content : Content) (q : ℕ) → is_some (got page content s.pages q) ≡ put (page_in (flight.does slot)) true flight.stored q
-      stored_then content q = ap (λ x. is_some (got page content s.pages q)) writes ∙ by_page (cases_eq page q) ∙ ap (λ x. put (page_in x) true flight.stored q) (sym writes) where
+      stored_then : (content : Content) (q : ℕ) → is_some (got page content s.pages q) ≡ stored_by (flight.does slot) flight.stored q
+      stored_then content q = by_page (cases_eq page q) ∙ ap (λ x. stored_by x flight.stored q) (sym writes) where
         by_page : (page ≡ q) ⊎ (page ≢ q) → is_some (got page content s.pages q) ≡ put page true flight.stored q
         by_page (inl e) = rw (eq-eqb page q e) refl
         by_page (inr ne) = rw (ne_eqb page q ne) (c.stored q)
 
-      others_then : (content : Content) → get_or s.slots slot Idle ≡ Writes page content → (q : ℕ) → ((i : ℕ) → put slot Resting flight.does i ≢ Writing q) → p.pages q ≡ got page content s.pages q
+      others_then : (content : Content) → get_or s.slots slot Idle ≡ Writes page content → (q : ℕ) → ((i : ℕ) → put slot state.Idle flight.does i ≢ state.Writes q) → p.pages q ≡ got page content s.pages q
       others_then content is q none = ⊎_elim
           (λ e. rw (eq-eqb page q e) (ap p.pages (sym e) ∙ c.written slot page content is))
-          (λ ne. rw (ne_eqb page q ne) (c.others q (unwritten flight.does slot Resting q (λ e. ne (ap page_in (sym writes ∙ e))) none)))
+          (λ ne. rw (ne_eqb page q ne) (c.others q (unwritten flight.does slot state.Idle q (λ e. ne (ap page_of (sym writes ∙ e))) none)))
           (cases_eq page q)
 
       cut : slot < length s.slots → (content : Content) → get_or s.slots slot Idle ≡ Writes page content → IsCut (flight_after (directive.FinishOut slot) flight) (with_slot slot Idle (with_page page content s)) p
@@ -305,7 +316,7 @@ module _ (buffer store wires : ℕ) (instrs : List Instr) where
         stored = stored_then content;
         written = λ i q other at. ⊎_elim (λ new. absurd (idle_not_writes q other new.1)) (λ old. c.written i q other old.1) (new_or_old s.slots slot Idle (Writes q other) i inside at);
         others = others_then content is;
-        apart = apart_put flight.does slot Resting (resting_alone flight.does) c.apart;
+        apart = apart_put flight.does slot state.Idle (resting_alone flight.does) c.apart;
       }
 
   goes_do : (flight : Flight) (s p after : State) (job : Job) → IsCut flight s p → do_job instrs wires job p ≡ Some after → Goes (directive.Do job) flight s after
@@ -330,15 +341,15 @@ module _ (buffer store wires : ℕ) (instrs : List Instr) where
   one_entry None after h = h
   one_entry (Some x) after h = h
 
-  goes : (one : Directive) (flight : Flight) (s p after : State) → IsCut flight s p → IsInTurn buffer store flight one → all_done instrs wires p (plain_entry flight one) ≡ Some after → Goes one flight s after
-  goes (directive.Fresh f page) flight s p after c turn h = goes_fresh flight s p after f page c (one_entry (fresh f p) after h)
-  goes (directive.IssueIn slot page) flight s p after c turn h = subst (Goes (directive.IssueIn slot page) flight s) (same_Some p after h) (goes_issue_in flight s p slot page c turn.0 turn.1)
-  goes (directive.FinishIn slot frame) flight s p after c turn h =
-      let loads : load frame (page_in (flight.does slot)) p ≡ Some after = one_entry (load frame (page_in (flight.does slot)) p) after h in
-      goes_finish_in flight s p after slot frame turn.0 c turn.1 (ap (λ x. load frame (page_in x) p) (sym turn.1) ∙ loads)
-  goes (directive.IssueOut slot frame page) flight s p after c turn h = goes_issue_out flight s p after slot frame page c turn (one_entry (save frame page p) after h)
-  goes (directive.FinishOut slot) flight s p after c turn h = subst (Goes (directive.FinishOut slot) flight s) (same_Some p after h) (goes_finish_out flight s p slot turn.0 c turn.1)
-  goes (directive.Do job) flight s p after c turn h = goes_do flight s p after job c (one_entry (do_job instrs wires job p) after h)
+  goes : (one : Directive) (flight : Flight) (s p after : State) → IsCut flight s p → IsInTurn buffer flight one → IsBelow store one → all_done instrs wires p (plain_entry flight one) ≡ Some after → Goes one flight s after
+  goes (directive.Fresh f page) flight s p after c turn below h = goes_fresh flight s p after f page c (one_entry (fresh f p) after h)
+  goes (directive.IssueIn slot page) flight s p after c turn below h = subst (Goes (directive.IssueIn slot page) flight s) (same_Some p after h) (goes_issue_in flight s p slot page c turn.0 below turn.1)
+  goes (directive.FinishIn slot frame) flight s p after c turn below h =
+      let loads : load frame (page_of (flight.does slot)) p ≡ Some after = one_entry (load frame (page_of (flight.does slot)) p) after h in
+      goes_finish_in flight s p after slot frame turn.0 c turn.1 (ap (λ x. load frame (page_of x) p) (sym turn.1) ∙ loads)
+  goes (directive.IssueOut slot frame page) flight s p after c turn below h = goes_issue_out flight s p after slot frame page c turn below (one_entry (save frame page p) after h)
+  goes (directive.FinishOut slot) flight s p after c turn below h = subst (Goes (directive.FinishOut slot) flight s) (same_Some p after h) (goes_finish_out flight s p slot turn.0 c turn.1)
+  goes (directive.Do job) flight s p after c turn below h = goes_do flight s p after job c (one_entry (do_job instrs wires job p) after h)
 
   -- entries that could be done could be done one part after the other
   in_parts : (some others : List Replaced) (p end : State) → all_done instrs wires p (some ++ others) ≡ Some end → (mid : State) × (all_done instrs wires p some ≡ Some mid) × (all_done instrs wires mid others ≡ Some end)
@@ -348,21 +359,21 @@ module _ (buffer store wires : ℕ) (instrs : List Instr) where
       let rest = in_parts some others first.0 end first.2 in
       (rest.0, ap (λ (o : Option State). o >>= (λ a. all_done instrs wires a some)) first.1 ∙ rest.1, rest.2)
 
-  all_idle : (xs : List Slot) → ((i : ℕ) → doing (get_or xs i Idle) ≡ Resting) → list_all is_idle xs ≡ true
+  all_idle : (xs : List Slot) → ((i : ℕ) → doing (get_or xs i Idle) ≡ state.Idle) → list_all is_idle xs ≡ true
   all_idle [] h = refl
   all_idle (x ∷ xs) h = and_from (is_idle x) (list_all is_idle xs) (is_resting x (h 0)) (all_idle xs (λ i. h (suc i)))
 
-  walks_beside : (part : List Directive) (d count : ℕ) (flight : Flight) (s p end : State) → IsCut flight s p → AreInTurn buffer store flight part
+  walks_beside : (part : List Directive) (d count : ℕ) (flight : Flight) (s p end : State) → IsCut flight s p → AreInTurn buffer flight part → AreBelow store part
       → all_done instrs wires p (plainly flight part) ≡ Some end → end.next ≡ length instrs → broken_at instrs count (walked instrs wires store d s part) ≡ None
-  walks_beside [] d count flight s p end c turns h all =
+  walks_beside [] d count flight s p end c turns below h all =
       let same = same_Some p end h in
       let next : s.next ≡ length instrs = c.next ∙ ap (λ (x : State). x.next) same ∙ all in
       let idle : list_all is_idle s.slots ≡ true = all_idle s.slots (λ i. c.each i ∙ turns i) in
       rw (eq-eqb s.next (length instrs) next, idle) refl
-  walks_beside (one ∷ part) d count flight s p end c turns h all =
+  walks_beside (one ∷ part) d count flight s p end c turns below h all =
       let parts = in_parts (plain_entry flight one) (plainly (flight_after one flight) part) p end h in
-      let step = goes one flight s p parts.0 c turns.0 parts.1 in
-      let rest = walks_beside part (d + 1) count (flight_after one flight) step.0 parts.0 end step.2 turns.1 parts.2 all in
+      let step = goes one flight s p parts.0 c turns.0 below.0 parts.1 in
+      let rest = walks_beside part (d + 1) count (flight_after one flight) step.0 parts.0 end step.2 turns.1 below.1 parts.2 all in
       ap (λ (o : Option State). broken_at instrs count (unless_broken d o (λ after. walked instrs wires store (d + 1) after part))) step.1 ∙ rest
 
 get_or_none : (frames slots i : ℕ) → get_or (replicate slots Idle) i Idle ≡ Idle
@@ -378,7 +389,7 @@ some_ends (Some end) n h = (end, refl, h)
 
 pub cut_transfers_carry : CutTransfersCarry
 unfolding break_of
-cut_transfers_carry limits store instrs part turns carries =
+cut_transfers_carry limits store instrs part turns below carries =
     let end = some_ends (all_done instrs limits.page (start limits.frames 0) (plainly at_rest part)) (length instrs) carries in
     walks_beside limits.buffer store limits.page instrs part 0 (length part) at_rest (start limits.frames limits.buffer) (start limits.frames 0) end.0 (record {
       frames = refl;
@@ -389,4 +400,4 @@ cut_transfers_carry limits store instrs part turns carries =
       written = λ i q content is. absurd (idle_not_writes q content (sym (get_or_none limits.frames limits.buffer i) ∙ is));
       others = λ q none. refl;
       apart = λ i j q for_i for_j. absurd (false≢true for_i);
-    }) turns end.1 end.2
+    }) turns below end.1 end.2

@@ -11,7 +11,8 @@ use Rattle.mage_carry.specs.Steps.{◌>>=◌, provided, do_job}
 use Rattle.mage_carry.specs.Carrying.{start}
 use Rattle.mage_carry.proofs.Chains.{none_not_some, some_not_none, same_Some}
 use Rattle.mage_residency.specs.Plain.{load, save, entry_done, all_done}
-use Rattle.mage_residency.specs.Renamed.{unless_it, saved_to, IsRenamed, has_after, AreRenamed, NamesDontMatter}
+use Rattle.mage_sched.specs.Renamed.{unless_it, saved_to, IsRenamed, has_after, AreRenamed}
+use Rattle.mage_residency.specs.Renamed.{NamesDontMatter}
 use Rattle.mage_residency.proofs.Beside.{beside, job_beside}
 
 -- each store page has what its page has

@@ -27,7 +27,7 @@ use Rattle.mage_sched.proofs.Spacing.{Stand, stand_next, AllReads, AreSorted, Ar
 use Rattle.mage_sched.proofs.Memories.{AreInMemory, memory_fresh, memory_load, memory_save}
 use Rattle.mage_sched.proofs.Buffers.{AreSlots, IsLeaving}
 use Rattle.mage_sched.proofs.Arrivals.{slots_fresh, slots_do}
-use Rattle.mage_sched.proofs.Turning.{Turn, turn_list, Remembers, enter_remembered, read_goes, save_goes, load_goes}
+use Rattle.mage_sched.proofs.Turning.{Turn, turn_list, one_more, Remembers, enter_remembered, read_goes, save_goes, load_goes}
 
 -- there is a slot where one is needed
 abbrev pub HasRoom : (buffer : ℕ) → List Replaced → Type 0
@@ -144,26 +144,26 @@ pub record AreReady (buffer gap : ℕ) (before : List Replaced) (all : List Time
   pub new : (flying : List Timed) (read : Timed) (rest : List Timed) → flying ++ read ∷ rest ≡ all → read.issue ≤ gap → is_read read.page flying ≡ false
   pub saved : (flying : List Timed) (read : Timed) (rest : List Timed) → flying ++ read ∷ rest ≡ all → read.issue ≤ gap → is_saved before read.page ≡ true
 
-module _ (buffer : ℕ) (before after : List Replaced) (all : List Timed) (next : Buffer → List Directive) (reads : List Read) (issues : List ℕ)
+module _ (buffer : ℕ) (before after : List Replaced) (all : List Timed) (next : Buffer → List Directive) (plain : List Replaced) (reads : List Read) (issues : List ℕ)
     (ready : AreReady buffer (gap_after before) before all)
     (goes : (flying waiting : List Timed) (table : Buffer) (seen : Seen) (flight : Flight) → AreSlots buffer before after flying waiting table seen flight → Remembers before seen
     → flying ++ waiting ≡ all → Each (λ (read : Timed). gap_after before < read.issue) waiting → Each (λ (read : Timed). read.issue ≤ gap_after before) flying
-    → Turn buffer seen flight (next table) reads issues (length waiting)) where
+    → Turn buffer seen flight (next table) plain reads issues (length waiting)) where
   abbrev pub then_ahead : List Timed → Buffer → List Directive
   then_ahead waiting table = (all_done (map issued (filter (is_ahead_at (gap_after before)) waiting)) table).directives ++ next (all_done (map issued (filter (is_ahead_at (gap_after before)) waiting)) table).buffer
 
   none_ahead : (waiting : List Timed) (table : Buffer) (seen : Seen) (flight : Flight) → filter (is_ahead_at (gap_after before)) waiting ≡ []
-      → Turn buffer seen flight (next table) reads issues (length waiting) → Turn buffer seen flight (then_ahead waiting table) reads issues (length waiting)
+      → Turn buffer seen flight (next table) plain reads issues (length waiting) → Turn buffer seen flight (then_ahead waiting table) plain reads issues (length waiting)
   none_ahead waiting table seen flight none h =
-      let P : List Timed → Type 0 = λ xs. Turn buffer seen flight ((all_done (map issued xs) table).directives ++ next (all_done (map issued xs) table).buffer) reads issues (length waiting) in
+      let P : List Timed → Type 0 = λ xs. Turn buffer seen flight ((all_done (map issued xs) table).directives ++ next (all_done (map issued xs) table).buffer) plain reads issues (length waiting) in
       subst P (sym none) h
 
   ahead_one : (read : Timed) (waiting flying : List Timed) (table : Buffer) (seen : Seen) (flight : Flight) → AreSlots buffer before after flying (read ∷ waiting) table seen flight → Remembers before seen
       → flying ++ read ∷ waiting ≡ all → Each (λ (other : Timed). read.issue ≤ other.issue) waiting → gap_after before ≤ read.issue → Each (λ (other : Timed). other.issue ≤ gap_after before) flying
       → (read.issue ≡ gap_after before) ⊎ (read.issue ≡ gap_after before → ⊥)
       → ((table1 : Buffer) (seen1 : Seen) (flight1 : Flight) → AreSlots buffer before after (flying ++ read ∷ []) waiting table1 seen1 flight1 → Remembers before seen1 → Each (λ (other : Timed). other.issue ≤ gap_after before) (flying ++ read ∷ [])
-      → Turn buffer seen1 flight1 (then_ahead waiting table1) reads issues (length waiting))
-      → Turn buffer seen flight (then_ahead (read ∷ waiting) table) reads issues (suc (length waiting))
+      → Turn buffer seen1 flight1 (then_ahead waiting table1) plain reads issues (length waiting))
+      → Turn buffer seen flight (then_ahead (read ∷ waiting) table) plain reads issues (suc (length waiting))
   ahead_one read waiting flying table seen flight kept was whole sorted from early (inr n) others_go =
       let late : gap_after before < read.issue = grind (arith, from, n) in
       let others = each_map (λ (other : Timed). read.issue ≤ other.issue) (λ (other : Timed). gap_after before < other.issue) (λ other h. omega (arith, h, late)) waiting sorted in
@@ -173,16 +173,16 @@ module _ (buffer : ℕ) (before after : List Replaced) (all : List Timed) (next 
   ahead_one read waiting flying table seen flight kept was whole sorted from early (inl e) others_go =
       let now : read.issue ≤ gap_after before = omega (arith, e) in
       let due = each_seam (λ (other : Timed). gap_after before < other.due) flying read waiting (let P : List Timed → Type 0 = λ xs. Each (λ (other : Timed). gap_after before < other.due) xs in subst P (sym whole) ready.due) in
-      let more = read_goes buffer before after flying read waiting (then_ahead waiting) reads issues (ready.few flying read waiting whole now) (ready.new flying read waiting whole now) (ready.saved flying read waiting whole now) (sym e)
+      let more = read_goes buffer before after flying read waiting (then_ahead waiting) plain reads issues (ready.few flying read waiting whole now) (ready.new flying read waiting whole now) (ready.saved flying read waiting whole now) (sym e)
       (λ table1 seen1 flight1 kept1 was1. others_go table1 seen1 flight1 kept1 was1 (each_append (λ (other : Timed). other.issue ≤ gap_after before) flying (read ∷ []) early (now, tt)))
       table seen flight kept was in
-      let P : List Timed → Type 0 = λ xs. Turn buffer seen flight ((all_done (map issued xs) table).directives ++ next (all_done (map issued xs) table).buffer) reads issues (suc (length waiting)) in
+      let P : List Timed → Type 0 = λ xs. Turn buffer seen flight ((all_done (map issued xs) table).directives ++ next (all_done (map issued xs) table).buffer) plain reads issues (suc (length waiting)) in
       subst P (sym (filter_yes (is_ahead_at (gap_after before)) read waiting (ahead_true (gap_after before) read e due)))
-      (turn_list buffer seen flight _ _ reads issues (suc (length waiting)) (sym (append_assoc (read_issued read.page table).directives (all_done (map issued (filter (is_ahead_at (gap_after before)) waiting)) (read_issued read.page table).buffer).directives _)) more)
+      (turn_list buffer seen flight _ _ plain reads issues (suc (length waiting)) (sym (append_assoc (read_issued read.page table).directives (all_done (map issued (filter (is_ahead_at (gap_after before)) waiting)) (read_issued read.page table).buffer).directives _)) more)
 
   pub ahead_goes : (waiting flying : List Timed) (table : Buffer) (seen : Seen) (flight : Flight) → AreSlots buffer before after flying waiting table seen flight → Remembers before seen
       → flying ++ waiting ≡ all → AreSorted waiting → Each (λ (read : Timed). gap_after before ≤ read.issue) waiting → Each (λ (read : Timed). read.issue ≤ gap_after before) flying
-      → Turn buffer seen flight (then_ahead waiting table) reads issues (length waiting)
+      → Turn buffer seen flight (then_ahead waiting table) plain reads issues (length waiting)
   ahead_goes [] flying table seen flight kept was whole sorted from early = goes flying [] table seen flight kept was whole tt early
   ahead_goes (read ∷ waiting) flying table seen flight kept was whole sorted from early =
       ahead_one read waiting flying table seen flight kept was whole sorted.0 from.0 early (cases_eq read.issue (gap_after before))
@@ -272,7 +272,7 @@ module _ (buffer ahead : ℕ) (reads : List Read) (whole : AllReads buffer reads
   module _ (all : List Timed) where
     abbrev pub Walks : (list before : List Replaced) (i : ℕ) (flying waiting : List Timed) (table : Buffer) (seen : Seen) (flight : Flight) → Type 0
     Walks list before i flying waiting table seen flight =
-        Turn buffer seen flight (all_done (moves_from all (gap_after before) i list) table).directives (reads_from before list) (times_of (to_come before list i)) (length waiting)
+        Turn buffer seen flight (all_done (moves_from all (gap_after before) i list) table).directives list (reads_from before list) (times_of (to_come before list i)) (length waiting)
 
     at_end : (before : List Replaced) (i : ℕ) (past flying waiting : List Timed) (table : Buffer) (seen : Seen) (flight : Flight)
         → IsAt buffer ahead reads all before [] i past flying waiting → AreSlots buffer before [] flying waiting table seen flight → Walks [] before i flying waiting table seen flight
@@ -283,6 +283,8 @@ module _ (buffer ahead : ℕ) (reads : List Read) (whole : AllReads buffer reads
           issued = refl;
           turns = λ slot. idle none.0 none.1 slot (busy_cases (flight.does slot));
           asks = sym (ap length none.1);
+          same = refl;
+          own = refl;
         } where
           idle : flying ≡ [] → waiting ≡ [] → (slot : ℕ) → (flight.does slot ≡ state.Idle) ⊎ (((page : ℕ) × (flight.does slot ≡ state.Reads page)) ⊎ ((page : ℕ) × (flight.does slot ≡ state.Writes page))) → flight.does slot ≡ state.Idle
           idle f w slot (inl e) = e
@@ -327,10 +329,10 @@ module _ (buffer ahead : ℕ) (reads : List Read) (whole : AllReads buffer reads
 
       -- the moves of the load, where its read is known
       as_moves : (table : Buffer) (seen : Seen) (flight : Flight) (asked : ℕ) → get_or all i no_timed ≡ first_of before i page
-          → Turn buffer seen flight (all_done (loaded (first_of before i page) frame page ++ moves_from all (gap_after before) (i + 1) list) table).directives (reads_from before (entry.Load frame page ∷ list)) (times_of (to_come before (entry.Load frame page ∷ list) i)) asked
-          → Turn buffer seen flight (all_done (moves_from all (gap_after before) i (entry.Load frame page ∷ list)) table).directives (reads_from before (entry.Load frame page ∷ list)) (times_of (to_come before (entry.Load frame page ∷ list) i)) asked
+          → Turn buffer seen flight (all_done (loaded (first_of before i page) frame page ++ moves_from all (gap_after before) (i + 1) list) table).directives (entry.Load frame page ∷ list) (reads_from before (entry.Load frame page ∷ list)) (times_of (to_come before (entry.Load frame page ∷ list) i)) asked
+          → Turn buffer seen flight (all_done (moves_from all (gap_after before) i (entry.Load frame page ∷ list)) table).directives (entry.Load frame page ∷ list) (reads_from before (entry.Load frame page ∷ list)) (times_of (to_come before (entry.Load frame page ∷ list) i)) asked
       as_moves table seen flight asked e h =
-          let P : Timed → Type 0 = λ r. Turn buffer seen flight (all_done (loaded r frame page ++ moves_from all (gap_after before) (i + 1) list) table).directives (reads_from before (entry.Load frame page ∷ list)) (times_of (to_come before (entry.Load frame page ∷ list) i)) asked in
+          let P : Timed → Type 0 = λ r. Turn buffer seen flight (all_done (loaded r frame page ++ moves_from all (gap_after before) (i + 1) list) table).directives (entry.Load frame page ∷ list) (reads_from before (entry.Load frame page ∷ list)) (times_of (to_come before (entry.Load frame page ∷ list) i)) asked in
           subst P (sym e) h
 
       load_air : (flying waiting : List Timed) (table : Buffer) (seen : Seen) (flight : Flight)
@@ -339,10 +341,10 @@ module _ (buffer ahead : ℕ) (reads : List Read) (whole : AllReads buffer reads
           → issue_of buffer ahead reads i < gap_after before → Each (λ (one : Timed). one.issue < gap_after before) flying → Each (λ (one : Timed). gap_after before ≤ one.issue) waiting
           → Walks (entry.Load frame page ∷ list) before i (first_of before i page ∷ flying) waiting table seen flight
       load_air flying waiting table seen flight kept was coming e soon early late =
-          let done = load_goes buffer before list (first_of before i page) flying waiting frame after_load (reads_from (entry.Load frame page ∷ before) list) (times_of (to_come (entry.Load frame page ∷ before) list (i + 1)))
+          let done = load_goes buffer before list (first_of before i page) flying waiting frame after_load list (reads_from (entry.Load frame page ∷ before) list) (times_of (to_come (entry.Load frame page ∷ before) list (i + 1)))
           (λ table1 seen1 flight1 kept1 was1. more flying waiting table1 seen1 flight1 (next_at flying waiting coming e early late) kept1 was1) table seen flight kept was in
           as_moves table seen flight (length waiting) (load_at i past (first_of before i page) (flying ++ waiting) e number)
-          (let P : Bool → Type 0 = λ b. Turn buffer seen flight (all_done (cond b (Takes frame page ∷ []) (Reads page ∷ Takes frame page ∷ []) ++ moves_from all (gap_after before) (i + 1) list) table).directives (reads_from before (entry.Load frame page ∷ list)) (times_of (to_come before (entry.Load frame page ∷ list) i)) (length waiting) in
+          (let P : Bool → Type 0 = λ b. Turn buffer seen flight (all_done (cond b (Takes frame page ∷ []) (Reads page ∷ Takes frame page ∷ []) ++ moves_from all (gap_after before) (i + 1) list) table).directives (entry.Load frame page ∷ list) (reads_from before (entry.Load frame page ∷ list)) (times_of (to_come before (entry.Load frame page ∷ list) i)) (length waiting) in
           subst P (sym (lt-ltb (issue_of buffer ahead reads i) (gap_after before) soon)) done)
 
       load_now : (waiting : List Timed) (table : Buffer) (seen : Seen) (flight : Flight)
@@ -354,12 +356,12 @@ module _ (buffer ahead : ℕ) (reads : List Read) (whole : AllReads buffer reads
           let by_due = timed_by_due buffer ahead reads i (reads_from before (entry.Load frame page ∷ list)) whole stand in
           let now = by_due.0 in
           let done = read_goes buffer before (entry.Load frame page ∷ list) [] (first_of before i page) waiting (λ b. (finish_in frame page b).directives ++ after_load (finish_in frame page b).buffer)
-          (reads_from before (entry.Load frame page ∷ list)) (times_of (to_come before (entry.Load frame page ∷ list) i)) has.0 refl entries.0.1 (omega (arith, late, now))
-          (λ table1 seen1 flight1 kept1 was1. load_goes buffer before list (first_of before i page) [] waiting frame after_load (reads_from (entry.Load frame page ∷ before) list) (times_of (to_come (entry.Load frame page ∷ before) list (i + 1)))
+          (entry.Load frame page ∷ list) (reads_from before (entry.Load frame page ∷ list)) (times_of (to_come before (entry.Load frame page ∷ list) i)) has.0 refl entries.0.1 (omega (arith, late, now))
+          (λ table1 seen1 flight1 kept1 was1. load_goes buffer before list (first_of before i page) [] waiting frame after_load list (reads_from (entry.Load frame page ∷ before) list) (times_of (to_come (entry.Load frame page ∷ before) list (i + 1)))
           (λ table2 seen2 flight2 kept2 was2. more [] waiting table2 seen2 flight2 (next_at [] waiting coming e tt others) kept2 was2) table1 seen1 flight1 kept1 was1)
           table seen flight kept was in
           as_moves table seen flight (suc (length waiting)) (load_at i past (first_of before i page) waiting e number)
-          (let P : Bool → Type 0 = λ b. Turn buffer seen flight (all_done (cond b (Takes frame page ∷ []) (Reads page ∷ Takes frame page ∷ []) ++ moves_from all (gap_after before) (i + 1) list) table).directives (reads_from before (entry.Load frame page ∷ list)) (times_of (to_come before (entry.Load frame page ∷ list) i)) (suc (length waiting)) in
+          (let P : Bool → Type 0 = λ b. Turn buffer seen flight (all_done (cond b (Takes frame page ∷ []) (Reads page ∷ Takes frame page ∷ []) ++ moves_from all (gap_after before) (i + 1) list) table).directives (entry.Load frame page ∷ list) (reads_from before (entry.Load frame page ∷ list)) (times_of (to_come before (entry.Load frame page ∷ list) i)) (suc (length waiting)) in
           subst P (sym (le-ltb (issue_of buffer ahead reads i) (gap_after before) late)) done)
 
       load_walk : (flying waiting : List Timed) (table : Buffer) (seen : Seen) (flight : Flight)
@@ -397,7 +399,7 @@ module _ (buffer ahead : ℕ) (reads : List Read) (whole : AllReads buffer reads
         (record { entries = at.entries.1; has = at.has; memory = memory_fresh before frame page at.memory at.entries.0; stand = at.stand; whole = at.whole; number = at.number; coming = at.coming; due = at.due; early = at.early; late = at.late })
         (slots_fresh buffer before list flying waiting table seen flight frame page kept at.entries.0)
         (enter_remembered before (entry.Fresh frame page ∷ before) seen (seen_after (directive.Fresh frame page) seen) frame page was refl (λ other. refl) (λ q. refl) refl (λ other. refl) (λ q. refl)) in
-        record { done = rest.done; issued = rest.issued; turns = (tt, rest.turns); asks = rest.asks }
+        record { done = rest.done; issued = rest.issued; turns = (tt, rest.turns); asks = rest.asks; same = ap (λ (xs : List Replaced). entry.Fresh frame page ∷ xs) rest.same; own = one_more (directive.Fresh frame page) rest.own }
     walk (entry.Load frame page ∷ list) before i past flying waiting table seen flight at kept was =
         load_walk before list i past frame page at.entries at.has at.memory at.stand at.number at.due
         (λ flying1 waiting1 table1 seen1 flight1 at1 kept1 was1. walk list (entry.Load frame page ∷ before) (i + 1) (past ++ first_of before i page ∷ []) flying1 waiting1 table1 seen1 flight1 at1 kept1 was1)
@@ -409,7 +411,7 @@ module _ (buffer ahead : ℕ) (reads : List Read) (whole : AllReads buffer reads
         let P : List Timed → Type 0 = λ xs. Each (λ (one : Timed). one.page ≡ page → gap_after before ≤ one.issue) xs in
         let unread = none_read page (gap_after before) flying (each_left (λ (one : Timed). one.page ≡ page → gap_after before ≤ one.issue) flying waiting (subst P (sym at.coming) lost)) at.early in
         let later = read_right page flying waiting unread (ap (is_read page) at.coming ∙ is_read-loaded buffer ahead reads i before (entry.Save frame page ∷ list) page ∙ at.entries.0.2) in
-        save_goes buffer before list flying waiting frame page (λ b. (all_done (moves_from all (gap_after before) i list) b).directives) (reads_from before (entry.Save frame page ∷ list)) (times_of (to_come before (entry.Save frame page ∷ list) i))
+        save_goes buffer before list flying waiting frame page (λ b. (all_done (moves_from all (gap_after before) i list) b).directives) list (reads_from before (entry.Save frame page ∷ list)) (times_of (to_come before (entry.Save frame page ∷ list) i))
         (few_fly before (entry.Save frame page ∷ list) i flying waiting at.stand at.coming at.early at.has.0) unread held at.entries.0.1 (at.memory.came page here) later
         (λ table1 seen1 flight1 kept1 was1. walk list (entry.Save frame page ∷ before) i past flying waiting table1 seen1 flight1
         (record { entries = at.entries.1; has = at.has.1; memory = memory_save before frame page at.memory; stand = at.stand; whole = at.whole; number = at.number; coming = at.coming; due = at.due; early = at.early; late = at.late })
@@ -417,7 +419,7 @@ module _ (buffer ahead : ℕ) (reads : List Read) (whole : AllReads buffer reads
         table seen flight kept was (λ slot h. none_leaves before list frame page here (kept.writing slot page h).leaves)
     walk (entry.Do job ∷ list) before i past flying waiting table seen flight at kept was =
         let next : Buffer → List Directive = λ b. directive.Do job ∷ (all_done (moves_from all (gap_after before + 1) i list) b).directives in
-        let done = ahead_goes buffer before (entry.Do job ∷ list) (to_come before (entry.Do job ∷ list) i) next (reads_from before (entry.Do job ∷ list)) (times_of (to_come before (entry.Do job ∷ list) i))
+        let done = ahead_goes buffer before (entry.Do job ∷ list) (to_come before (entry.Do job ∷ list) i) next (entry.Do job ∷ list) (reads_from before (entry.Do job ∷ list)) (times_of (to_come before (entry.Do job ∷ list) i))
         (ready before list job i at.entries at.stand)
         (λ flying1 waiting1 table1 seen1 flight1 kept1 was1 whole1 late1 early1.
         let rest = walk list (entry.Do job ∷ before) i past flying1 waiting1 table1 (seen_after (directive.Do job) seen1) flight1
@@ -435,7 +437,7 @@ module _ (buffer ahead : ℕ) (reads : List Read) (whole : AllReads buffer reads
         })
         (slots_do buffer before list flying1 waiting1 table1 seen1 flight1 job kept1)
         (record { now = ap (λ (n : ℕ). n + 1) was1.now; holds = was1.holds; left = was1.left }) in
-        record { done = rest.done; issued = rest.issued; turns = (tt, rest.turns); asks = rest.asks })
+        record { done = rest.done; issued = rest.issued; turns = (tt, rest.turns); asks = rest.asks; same = ap (λ (xs : List Replaced). entry.Do job ∷ xs) rest.same; own = one_more (directive.Do job) rest.own })
         waiting flying table seen flight kept was at.coming
         (sorted_right flying waiting (let P : List Timed → Type 0 = AreSorted in subst P (sym at.coming) (timed_sorted buffer ahead reads i (reads_from before (entry.Do job ∷ list)))))
         at.late (each_map (λ (one : Timed). one.issue < gap_after before) (λ (one : Timed). one.issue ≤ gap_after before) (λ one h. omega (arith, h)) flying at.early) in
@@ -444,4 +446,4 @@ module _ (buffer ahead : ℕ) (reads : List Read) (whole : AllReads buffer reads
         let rest : List Move = Does job ∷ moves_from all (gap_after before + 1) i list in
         let list_is : (all_done (map issued (filter (is_ahead_at (gap_after before)) waiting)) table).directives ++ next (all_done (map issued (filter (is_ahead_at (gap_after before)) waiting)) table).buffer ≡ (all_done (issued_ahead all (gap_after before) ++ rest) table).directives =
         ap (λ (step : Step). step.directives) (sym (all_done-append (map issued (filter (is_ahead_at (gap_after before)) waiting)) rest table)) ∙ ap (λ (xs : List Move). (all_done (xs ++ rest) table).directives) (sym same) in
-        turn_list buffer seen flight _ _ (reads_from before (entry.Do job ∷ list)) (times_of (to_come before (entry.Do job ∷ list) i)) (length waiting) list_is done
+        turn_list buffer seen flight _ _ (entry.Do job ∷ list) (reads_from before (entry.Do job ∷ list)) (times_of (to_come before (entry.Do job ∷ list) i)) (length waiting) list_is done

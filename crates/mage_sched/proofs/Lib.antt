@@ -13,9 +13,9 @@ mod Buffers
 mod Arrivals
 mod Turning
 mod Course
-mod Own
+pub mod Own
 mod Housing
 mod Beside
 mod Homing
-mod Planned
+pub mod Planned
 mod WorkedExample

@@ -12,7 +12,8 @@ use Rattle.mage_sched.specs.Slots.{idle_slots, idle_buffer}
 use Rattle.mage_sched.specs.Schedule.{schedule_of, buffer_tight}
 use Rattle.mage_sched.specs.Issues.{unseen}
 use Rattle.mage_sched.specs.Turns.{at_rest}
-use Rattle.mage_sched.specs.Scheduled.{IsSchedule}
+use Rattle.mage_sched.specs.Plainly.{plainly}
+use Rattle.mage_sched.specs.Scheduled.{IsSchedule, SchedulesArePlain}
 use Rattle.mage_sched.proofs.Issues.{length-timed_from}
 use Rattle.mage_sched.proofs.Kept.{order_is_kept}
 use Rattle.mage_sched.proofs.Coming.{Each, lost_by_due, due_in_order}
@@ -49,7 +50,7 @@ slots_at_rest buffer list waiting = record {
 
 -- the directives of a list are in turn
 pub own_turn : (buffer ahead : ℕ) (list : List Replaced) → IsReplaced list → buffer_tight buffer list ≡ None
-    → Turn buffer unseen at_rest (schedule_of buffer ahead list) (reads_of list) (times_of (timed_of buffer ahead (reads_of list))) (length (timed_of buffer ahead (reads_of list)))
+    → Turn buffer unseen at_rest (schedule_of buffer ahead list) list (reads_of list) (times_of (timed_of buffer ahead (reads_of list))) (length (timed_of buffer ahead (reads_of list)))
 own_turn buffer ahead list rule loose =
     let reads = reads_of list in
     let all = timed_of buffer ahead reads in
@@ -82,4 +83,11 @@ own_schedule buffer ahead list rule loose =
       asked = turn.asks ∙ length-timed_from buffer ahead (reads_of list) (reads_of list) 0;
       sent = ap length order.0;
       jobs = order.1;
+      plain = ap (plainly at_rest) turn.own ∙ turn.same;
     }
+
+-- they name the pages that are transferred, and read plainly they are the list
+pub schedules_are_plain : SchedulesArePlain
+schedules_are_plain buffer ahead list rule loose =
+    let turn = own_turn buffer ahead list rule loose in
+    (turn.own, turn.same)

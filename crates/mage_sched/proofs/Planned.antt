@@ -13,10 +13,11 @@ use Rattle.mage_sched.specs.Homes.{Store, empty_store, store_after, homed_from, 
 use Rattle.mage_sched.specs.Schedule.{schedule_of, buffer_tight}
 use Rattle.mage_sched.specs.Issues.{unseen}
 use Rattle.mage_sched.specs.Turns.{at_rest, AreInTurn}
+use Rattle.mage_sched.specs.Plainly.{plainly}
 use Rattle.mage_sched.specs.Scheduled.{page_read, page_written, job_done, IsSchedule, IsHomed, IsPlanned, ListsAreScheduled, HomesKeepTurns}
 use Rattle.mage_sched.proofs.Tables.{idle_reads, idle_writes}
 use Rattle.mage_sched.proofs.Course.{times_of}
-use Rattle.mage_sched.proofs.Own.{own_schedule}
+use Rattle.mage_sched.proofs.Own.{own_schedule, schedules_are_plain}
 use Rattle.mage_sched.proofs.Homing.{homing}
 
 none_some : (n : ℕ) → None ≡ Some n → ⊥
@@ -39,7 +40,14 @@ homes_keep_turns buffer directives turns =
       are = record { tie = λ page home. refl };
       most = omega arith;
     }) turns in
-    record { turns = all.turns; reads = all.reads; issues = all.issues; below = all.below }
+    record {
+      turns = all.turns;
+      reads = all.reads;
+      issues = all.issues;
+      below = all.below;
+      pages = all.pages;
+      renamed = all.renamed (λ home. None) (λ page home e. absurd (none_some home e));
+    }
 
 homed_read : (store : Store) (list : List Directive) → length (flat_map page_read (homed_from store list).directives) ≡ length (flat_map page_read list)
 homed_read store [] = refl
@@ -79,6 +87,7 @@ homed_schedule buffer ahead list directives own =
       asked = homed_read empty_store directives ∙ own.asked;
       sent = homed_written empty_store directives ∙ own.sent;
       jobs = homed_jobs empty_store directives ∙ own.jobs;
+      plain = ap (plainly at_rest) homed.pages ∙ own.plain;
     }
 
 pub lists_are_scheduled : ListsAreScheduled
@@ -91,6 +100,7 @@ pub lists_are_planned : (buffer ahead : ℕ) (list : List Replaced) → IsReplac
 lists_are_planned buffer ahead list rule loose = record {
   schedule = (lists_are_scheduled buffer ahead list rule loose).1;
   below = (homes_keep_turns buffer (schedule_of buffer ahead list) (own_schedule buffer ahead list rule loose).turns).below;
+  homes = ap homed_of ((homes_keep_turns buffer (schedule_of buffer ahead list) (own_schedule buffer ahead list rule loose).turns).pages ∙ (schedules_are_plain buffer ahead list rule loose).0);
 }
 
 pub own_if : (buffer ahead : ℕ) (list : List Replaced) (directives : List Directive) → directives ≡ schedule_of buffer ahead list

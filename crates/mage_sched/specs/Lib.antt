@@ -6,4 +6,6 @@ pub mod Views
 pub mod Rule
 pub mod Issues
 pub mod Turns
+pub mod Plainly
+pub mod Renamed
 pub mod Scheduled

@@ -12,6 +12,8 @@ use Rattle.mage_sched.specs.Rule.{IsReplaced}
 use Rattle.mage_sched.specs.Schedule.{schedule_of, buffer_tight}
 use Rattle.mage_sched.specs.Issues.{unseen, reads_in, issues_in, AreTimely}
 use Rattle.mage_sched.specs.Turns.{at_rest, AreInTurn}
+use Rattle.mage_sched.specs.Plainly.{paged_in, plainly}
+use Rattle.mage_sched.specs.Renamed.{AreRenamed}
 
 -- the page that a save, or an issue of a write, names
 abbrev pub page_saved : Replaced → List ℕ
@@ -79,11 +81,15 @@ pub record IsSchedule (buffer ahead : ℕ) (list : List Replaced) (directives : 
   pub sent : length (flat_map page_written directives) ≡ length (flat_map page_saved list)
   -- the instructions are those of the list
   pub jobs : flat_map job_done directives ≡ flat_map job_of list
+  -- with the pages that are transferred, each write done when it is issued and each read when it is finished, they are the list
+  pub plain : plainly at_rest (paged_in unseen directives) ≡ list
 
 -- Such directives with store pages, of which there are so many.
 pub record IsPlanned (buffer ahead : ℕ) (list : List Replaced) (directives : List Directive) (count : ℕ) : Type 0 where
   pub schedule : IsSchedule buffer ahead list directives
   pub below : AreBelow count directives
+  -- the store pages, and their number, are the homes of the pages that are transferred
+  pub homes : homed_of (paged_in unseen directives) ≡ record { directives = directives; count = count }
 
 -- The directives of a list that the replacement rule makes are a schedule of it, where the buffer has a slot or needs none: in
 -- the pages' own numbers, and with store pages.
@@ -94,13 +100,25 @@ ListsAreScheduled =
     → IsSchedule buffer ahead list (schedule_of buffer ahead list)
     × IsSchedule buffer ahead list (homed_of (schedule_of buffer ahead list)).directives
 
+-- The directives of such a list, in the pages' own numbers, name the pages that are transferred, and read plainly they are the
+-- list itself.
+abbrev pub SchedulesArePlain : Type 0
+SchedulesArePlain =
+    (buffer ahead : ℕ) (list : List Replaced)
+    → IsReplaced list → buffer_tight buffer list ≡ None
+    → (paged_in unseen (schedule_of buffer ahead list) ≡ schedule_of buffer ahead list)
+    × (plainly at_rest (schedule_of buffer ahead list) ≡ list)
+
 -- Directives with store pages in place of the pages of others: the transfers are in turn as they were, what is read and when it
--- is issued stays, and each store page is one of so many.
+-- is issued stays, and each store page is one of so many. The pages that are transferred stay, and read plainly the directives
+-- are what the others are, with other names of pages.
 pub record IsHomed (buffer : ℕ) (before : List Directive) (count : ℕ) (after : List Directive) : Type 0 where
   pub turns : AreInTurn buffer at_rest after
   pub reads : reads_in unseen after ≡ reads_in unseen before
   pub issues : issues_in unseen after ≡ issues_in unseen before
   pub below : AreBelow count after
+  pub pages : paged_in unseen after ≡ paged_in unseen before
+  pub renamed : AreRenamed (λ home. None) (plainly at_rest before) (plainly at_rest after)
 
 -- So it is with homes, for directives in turn.
 abbrev pub HomesKeepTurns : Type 0

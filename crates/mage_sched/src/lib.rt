@@ -17,6 +17,6 @@ mod transfers;
 
 pub use fault::ScheduleError;
 pub use homes::homed;
-pub use laws::{homes_keep_turns, lists_are_scheduled, order_is_kept};
+pub use laws::{homes_keep_turns, lists_are_scheduled, order_is_kept, schedules_are_plain};
 pub use scheduling::{schedule, schedule_by_page};
 pub use tight::buffer_tight;

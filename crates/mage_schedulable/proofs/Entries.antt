@@ -25,7 +25,7 @@ use Rattle.mage_place.specs.Steps.{AreSteps, IsStepOf}
 use Rattle.mage_place.proofs.At.{slice_get-set_same, slice_get-set_other, slice_get-push_same, slice_get-push_other}
 use Rattle.mage_place.proofs.SoundFacts.{no_instr, Defined, arg_below}
 use Rattle.mage_belady.specs.Plan.{is_in, AreDistinct}
-use Rattle.mage_belady.specs.Rule.{Held, Moved, resident, victim_of, frame_of, entering, into_free, into_victims, brought_in, visited, all_brought_in, job_in, written, rule_from, tight_of}
+use Rattle.mage_belady.specs.Rule.{Held, Moved, resident, victim_of, frame_of, entering, into_free, into_victims, brought_in, visited, all_brought_in, job_in, written, rule_from, rule_of, tight_of}
 use Rattle.mage_belady.proofs.Bringing.{resident-set, resident-push, length-resident}
 use Rattle.mage_belady.proofs.Counts.{is_in-head, is_in-tail}
 use Rattle.mage_belady.proofs.Fits.{AllFit-from_none}
@@ -36,7 +36,10 @@ use Rattle.mage_sched.specs.Reads.{page_in, is_page}
 use Rattle.mage_sched.specs.Rule.{came_in, is_saved, is_loaded, in_memory, takes, IsEntry, AreEntries}
 use Rattle.mage_residency.proofs.Coming.{clean_page, still, turned}
 use Rattle.mage_residency.proofs.Dirty.{is_dirty, is_dirty-at, is_dirty-missing, is_dirty-push, is_dirty-set, is_dirty-written}
+use Rattle.mage_residency.specs.Carried.{HaveArguments}
 use Rattle.mage_schedulable.specs.Replacing.{RuleListsAreReplaced}
+use Rattle.mage_schedulable.specs.Standing.{AllFindPlaces, RuleListsFindPlaces}
+use Rattle.mage_schedulable.proofs.Standing.{finds-entering, finds_places}
 use Rattle.mage_schedulable.proofs.Leaving.{push_other, gone, set_other}
 use Rattle.mage_schedulable.proofs.Loading.{loaded_right, absent_visited, loads_later}
 
@@ -81,13 +84,19 @@ module _ (frames : ℕ) where
     from : (q : ℕ) → is_in q (resident held) ≡ true → (is_in q seen ≡ true) ⊎ (is_in q S ≡ true)
     saved : (q : ℕ) → is_in q seen ≡ true → is_dirty q held ≡ false → first_use steps t q ≢ NEVER → is_saved before q ≡ true
 
+module _ (frames : ℕ) (instrs : List Instr) (places : List Place) where
+  -- Entries behind others are ones that the schedule takes, and each instruction among them, from instruction t on, finds its
+  -- values at their places.
+  abbrev Right : (t : ℕ) → (before list : List Replaced) → Type 0
+  Right t before list = AreEntries before list × (HaveArguments instrs → AllFindPlaces instrs places t before list)
+
   module _ (t : ℕ) (seen : List ℕ) (step : Step) (steps : List Step) (early : t < NEVER) (few : length (pages_of step) ≤ frames) where
     abbrev Now : List Held → List Replaced → Type 0
-    Now held before = Follows t seen (pages_of step) held (step ∷ steps) before
+    Now held before = Follows frames t seen (pages_of step) held (step ∷ steps) before
 
     -- the rest of the list fits behind what leads to these frames
     abbrev Then : List Held → List Replaced → Type 0
-    Then held rest = (before : List Replaced) → Now held before → AreEntries before rest
+    Then held rest = (before : List Replaced) → Now held before → Right t before rest
 
     used_now : (p : ℕ) → is_in p (pages_of step) ≡ true → first_use (step ∷ steps) t p ≢ NEVER
     used_now p needed e = let same : t ≡ NEVER = rw needed at e in omega (arith, early, same)
@@ -99,23 +108,28 @@ module _ (frames : ℕ) where
       go true e = (memory ∙ missing, old e)
       go false e = new e
 
+    -- a page comes in, and the rest is right behind it
+    enters : (held : List Held) (before : List Replaced) (f p : ℕ) (rest : List Replaced) → is_in p (pages_of step) ≡ true → is_in p (resident held) ≡ false → in_memory before p ≡ is_in p (resident held)
+        → (is_in p seen ≡ false → came_in before p ≡ false) → (is_in p seen ≡ true → is_saved before p ≡ true) → Right t (entering seen f p ∷ before) rest → Right t before (entering seen f p ∷ rest)
+    enters held before f p rest needed missing memory new old right =
+        ((is_entry held before f p rest needed missing memory new old, right.0), λ have. finds-entering instrs places t before (is_in p seen) f p rest (right.1 have))
+
     comes_free : (held : List Held) (before : List Replaced) (p : ℕ) (rest : List Replaced) → length held < frames → is_in p (pages_of step) ≡ true → is_in p (resident held) ≡ false
-        → Now held before → Then (held ++ clean_page p ∷ []) rest → AreEntries before (entering seen (length held) p ∷ rest)
+        → Now held before → Then (held ++ clean_page p ∷ []) rest → Right t before (entering seen (length held) p ∷ rest)
     comes_free held before p rest room needed missing k after =
         let pushed = resident-push held (clean_page p) in
         let long = length-resident held in
-        let more = length_push held (clean_page p) in (
-          is_entry held before (length held) p rest needed missing (k.memory p) (λ e. k.came p e missing) (λ e. k.saved p e (is_dirty-missing p held missing) (used_now p needed)),
-          after (entering seen (length held) p ∷ before) (record {
-            distinct = rw pushed (AreDistinct-push (resident held) p k.distinct missing);
-            fits = omega (arith, room, more);
-            frame = λ g. page_in-entering before (length held) p (is_in p seen) g ∙ frame_now g ∙ ap (λ xs. slice_get xs g) (sym pushed);
-            memory = λ q. in_memory-entering before (length held) p (is_in p seen) q ∙ memory_now q ∙ ap (is_in q) (sym pushed);
-            came = λ q new absent. came_in-entering before (length held) p (is_in p seen) q ∙ came_now q new (ap (is_in q) (sym pushed) ∙ absent);
-            from = λ q m. from_now q (ap (is_in q) (sym pushed) ∙ m);
-            saved = λ q m clean used. is_saved-entering before (length held) p (is_in p seen) q ∙ k.saved q m (sym (is_dirty-push q held (clean_page p) refl) ∙ clean) used;
-          }),
-        )
+        let more = length_push held (clean_page p) in
+        let right = after (entering seen (length held) p ∷ before) (record {
+          distinct = rw pushed (AreDistinct-push (resident held) p k.distinct missing);
+          fits = omega (arith, room, more);
+          frame = λ g. page_in-entering before (length held) p (is_in p seen) g ∙ frame_now g ∙ ap (λ xs. slice_get xs g) (sym pushed);
+          memory = λ q. in_memory-entering before (length held) p (is_in p seen) q ∙ memory_now q ∙ ap (is_in q) (sym pushed);
+          came = λ q new absent. came_in-entering before (length held) p (is_in p seen) q ∙ came_now q new (ap (is_in q) (sym pushed) ∙ absent);
+          from = λ q m. from_now q (ap (is_in q) (sym pushed) ∙ m);
+          saved = λ q m clean used. is_saved-entering before (length held) p (is_in p seen) q ∙ k.saved q m (sym (is_dirty-push q held (clean_page p) refl) ∙ clean) used;
+        }) in
+        enters held before (length held) p rest needed missing (k.memory p) (λ e. k.came p e missing) (λ e. k.saved p e (is_dirty-missing p held missing) (used_now p needed)) right
       where
         nowhere : page_in before (length held) ≡ None
         nowhere = let long = length-resident held in k.frame (length held) ∙ slice_get_past (resident held) (length held) (omega (arith, long))
@@ -209,31 +223,26 @@ module _ (frames : ℕ) where
 
       comes_full : (before : List Replaced) (rest : List Replaced) → Now held before → Then (set held (frame_of v (resident held)) (clean_page p)) rest → (first_use steps (t + 1) v ≢ NEVER → is_loaded rest v ≡ true)
           → (dirty used : Bool) → is_dirty v held ≡ dirty → not (nat_eq (first_use steps (t + 1) v) NEVER) ≡ used
-          → AreEntries before ((cond (dirty && used) (entry.Save (frame_of v (resident held)) v ∷ []) [] ++ entering seen (frame_of v (resident held)) p ∷ []) ++ rest)
+          → Right t before ((cond (dirty && used) (entry.Save (frame_of v (resident held)) v ∷ []) [] ++ entering seen (frame_of v (resident held)) p ∷ []) ++ rest)
       comes_full before rest k after later true true d u =
           let inside = frame_of-within v (resident held) leaves.here in
           let there : page_in before (frame_of v (resident held)) ≡ Some v = k.frame (frame_of v (resident held)) ∙ slice_get-get_or (resident held) (frame_of v (resident held)) 0 inside ∙ ap Some at_f in
           let again : first_use steps (t + 1) v ≢ NEVER = λ e. false≢true (ap not (sym (eq-eqb (first_use steps (t + 1) v) NEVER e)) ∙ u) in
-          let saved_now : (q : ℕ) → is_in q seen ≡ true → is_dirty q held ≡ false → first_use (step ∷ steps) t q ≢ NEVER → is_saved (entry.Save (frame_of v (resident held)) v ∷ before) q ≡ true = λ q m c used. or_right (nat_eq v q) (is_saved before q) (k.saved q m c used) in (
-            (there, takes-entering (is_in p seen) (frame_of v (resident held)) p rest, loaded-entering (is_in p seen) (frame_of v (resident held)) p v rest (later again)),
-            (
-              is_entry held (entry.Save (frame_of v (resident held)) v ∷ before) (frame_of v (resident held)) p rest needed missing (k.memory p) (λ e. k.came p e missing) (λ e. saved_now p e (is_dirty-missing p held missing) (used_now p needed)),
-              after (entering seen (frame_of v (resident held)) p ∷ entry.Save (frame_of v (resident held)) v ∷ before)
-                  (follows before (entry.Save (frame_of v (resident held)) v ∷ before) k (record { frame = λ g. refl; memory = λ q. refl; came = λ q. refl }) (λ q m c used. ⊎_elim (λ e. or_left (nat_eq v q) (is_saved before q) (eq-eqb v q (sym e))) (λ ne. saved_now q m (clean_before q ne c) used) (cases_eq q v))),
-            ),
-          )
-      comes_full before rest k after later false used d u = (
-        is_entry held before (frame_of v (resident held)) p rest needed missing (k.memory p) (λ e. k.came p e missing) (λ e. k.saved p e (is_dirty-missing p held missing) (used_now p needed)),
-        after (entering seen (frame_of v (resident held)) p ∷ before)
-            (follows before before k (record { frame = λ g. refl; memory = λ q. refl; came = λ q. refl }) (λ q m c again. k.saved q m (⊎_elim (λ e. ap (λ x. is_dirty x held) e ∙ d) (λ ne. clean_before q ne c) (cases_eq q v)) again)),
-      )
-      comes_full before rest k after later true false d u = (
-        is_entry held before (frame_of v (resident held)) p rest needed missing (k.memory p) (λ e. k.came p e missing) (λ e. k.saved p e (is_dirty-missing p held missing) (used_now p needed)),
-        after (entering seen (frame_of v (resident held)) p ∷ before)
-            (follows before before k (record { frame = λ g. refl; memory = λ q. refl; came = λ q. refl }) (λ q m c again. ⊎_elim (λ e. absurd (again (ap (first_use (step ∷ steps) t) e ∙ never))) (λ ne. k.saved q m (clean_before q ne c) again) (cases_eq q v))),
-      ) where
-        never : first_use (step ∷ steps) t v ≡ NEVER
-        never = rw leaves.outside (eqb-true (first_use steps (t + 1) v) NEVER (turned (nat_eq (first_use steps (t + 1) v) NEVER) u))
+          let saved_now : (q : ℕ) → is_in q seen ≡ true → is_dirty q held ≡ false → first_use (step ∷ steps) t q ≢ NEVER → is_saved (entry.Save (frame_of v (resident held)) v ∷ before) q ≡ true = λ q m c used. or_right (nat_eq v q) (is_saved before q) (k.saved q m c used) in
+          let right = enters held (entry.Save (frame_of v (resident held)) v ∷ before) (frame_of v (resident held)) p rest needed missing (k.memory p) (λ e. k.came p e missing) (λ e. saved_now p e (is_dirty-missing p held missing) (used_now p needed))
+          (after (entering seen (frame_of v (resident held)) p ∷ entry.Save (frame_of v (resident held)) v ∷ before)
+          (follows before (entry.Save (frame_of v (resident held)) v ∷ before) k (record { frame = λ g. refl; memory = λ q. refl; came = λ q. refl }) (λ q m c used. ⊎_elim (λ e. or_left (nat_eq v q) (is_saved before q) (eq-eqb v q (sym e))) (λ ne. saved_now q m (clean_before q ne c) used) (cases_eq q v)))) in
+          (((there, takes-entering (is_in p seen) (frame_of v (resident held)) p rest, loaded-entering (is_in p seen) (frame_of v (resident held)) p v rest (later again)), right.0), right.1)
+      comes_full before rest k after later false used d u =
+          enters held before (frame_of v (resident held)) p rest needed missing (k.memory p) (λ e. k.came p e missing) (λ e. k.saved p e (is_dirty-missing p held missing) (used_now p needed))
+          (after (entering seen (frame_of v (resident held)) p ∷ before)
+          (follows before before k (record { frame = λ g. refl; memory = λ q. refl; came = λ q. refl }) (λ q m c again. k.saved q m (⊎_elim (λ e. ap (λ x. is_dirty x held) e ∙ d) (λ ne. clean_before q ne c) (cases_eq q v)) again)))
+      comes_full before rest k after later true false d u =
+          enters held before (frame_of v (resident held)) p rest needed missing (k.memory p) (λ e. k.came p e missing) (λ e. k.saved p e (is_dirty-missing p held missing) (used_now p needed))
+          (after (entering seen (frame_of v (resident held)) p ∷ before)
+          (follows before before k (record { frame = λ g. refl; memory = λ q. refl; came = λ q. refl }) (λ q m c again. ⊎_elim (λ e. absurd (again (ap (first_use (step ∷ steps) t) e ∙ never))) (λ ne. k.saved q m (clean_before q ne c) again) (cases_eq q v)))) where
+            never : first_use (step ∷ steps) t v ≡ NEVER
+            never = rw leaves.outside (eqb-true (first_use steps (t + 1) v) NEVER (turned (nat_eq (first_use steps (t + 1) v) NEVER) u))
 
     -- a page outside the step that isn't in memory isn't there behind the pages of the step
     absent_all : (todo : List ℕ) (held : List Held) (q : ℕ) → ((x : ℕ) → is_in x todo ≡ true → is_in x (pages_of step) ≡ true) → is_in q (pages_of step) ≡ false → is_in q (resident held) ≡ false
@@ -251,12 +260,12 @@ module _ (frames : ℕ) where
     brings : (held : List Held) (before : List Replaced) (p : ℕ) (rest : List Replaced) → is_in p (pages_of step) ≡ true → is_in p (resident held) ≡ false → Now held before
         → Then (brought_in frames (first_use steps (t + 1)) seen (pages_of step) held p).held rest
         → ((q : ℕ) → is_in q seen ≡ true → is_in q (pages_of step) ≡ false → is_in q (resident (brought_in frames (first_use steps (t + 1)) seen (pages_of step) held p).held) ≡ false → first_use steps (t + 1) q ≢ NEVER → is_loaded rest q ≡ true)
-        → AreEntries before ((brought_in frames (first_use steps (t + 1)) seen (pages_of step) held p).entries ++ rest)
+        → Right t before ((brought_in frames (first_use steps (t + 1)) seen (pages_of step) held p).entries ++ rest)
     brings held before p rest needed missing k = go (nat_lt (length held) frames) refl where
       go : (b : Bool) → nat_lt (length held) frames ≡ b
           → Then (cond b (into_free seen held p) (into_victims (first_use steps (t + 1)) seen (pages_of step) held p)).held rest
           → ((q : ℕ) → is_in q seen ≡ true → is_in q (pages_of step) ≡ false → is_in q (resident (cond b (into_free seen held p) (into_victims (first_use steps (t + 1)) seen (pages_of step) held p)).held) ≡ false → first_use steps (t + 1) q ≢ NEVER → is_loaded rest q ≡ true)
-          → AreEntries before ((cond b (into_free seen held p) (into_victims (first_use steps (t + 1)) seen (pages_of step) held p)).entries ++ rest)
+          → Right t before ((cond b (into_free seen held p) (into_victims (first_use steps (t + 1)) seen (pages_of step) held p)).entries ++ rest)
       go true e after later = comes_free held before p rest (ltb-true (length held) frames e) needed missing k after
       go false e after later =
           let v = victim_of (first_use steps (t + 1)) (filter (λ q. not (is_in q (pages_of step))) (resident held)) in
@@ -273,10 +282,10 @@ module _ (frames : ℕ) where
     brings_all : (todo : List ℕ) (held : List Held) (before : List Replaced) (rest : List Replaced) → ((q : ℕ) → is_in q todo ≡ true → is_in q (pages_of step) ≡ true) → Now held before
         → Then (all_brought_in frames (first_use steps (t + 1)) seen (pages_of step) todo held).held rest
         → Later (all_brought_in frames (first_use steps (t + 1)) seen (pages_of step) todo held).held rest
-        → AreEntries before ((all_brought_in frames (first_use steps (t + 1)) seen (pages_of step) todo held).entries ++ rest)
+        → Right t before ((all_brought_in frames (first_use steps (t + 1)) seen (pages_of step) todo held).entries ++ rest)
     brings_all [] held before rest among k after later = after before k
     brings_all (p ∷ todo) held before rest among k after later =
-        subst (AreEntries before) (sym (append_assoc one.entries more.entries rest)) (go (is_in p (resident held)) refl (λ h b. brings_all todo h b rest (λ q m. among q (is_in-tail q p todo m))) after later)
+        subst (Right t before) (sym (append_assoc one.entries more.entries rest)) (go (is_in p (resident held)) refl (λ h b. brings_all todo h b rest (λ q m. among q (is_in-tail q p todo m))) after later)
       where
         one : Moved
         one = visited frames (first_use steps (t + 1)) seen (pages_of step) held p
@@ -289,10 +298,10 @@ module _ (frames : ℕ) where
 
         go : (b : Bool) → is_in p (resident held) ≡ b
             → ((h : List Held) (b : List Replaced) → Now h b → Then (all_brought_in frames (first_use steps (t + 1)) seen (pages_of step) todo h).held rest → Later (all_brought_in frames (first_use steps (t + 1)) seen (pages_of step) todo h).held rest
-            → AreEntries b ((all_brought_in frames (first_use steps (t + 1)) seen (pages_of step) todo h).entries ++ rest))
+            → Right t b ((all_brought_in frames (first_use steps (t + 1)) seen (pages_of step) todo h).entries ++ rest))
             → Then (all_brought_in frames (first_use steps (t + 1)) seen (pages_of step) todo (cond b (still held) (brought_in frames (first_use steps (t + 1)) seen (pages_of step) held p)).held).held rest
             → Later (all_brought_in frames (first_use steps (t + 1)) seen (pages_of step) todo (cond b (still held) (brought_in frames (first_use steps (t + 1)) seen (pages_of step) held p)).held).held rest
-            → AreEntries before ((cond b (still held) (brought_in frames (first_use steps (t + 1)) seen (pages_of step) held p)).entries ++ ((all_brought_in frames (first_use steps (t + 1)) seen (pages_of step) todo (cond b (still held) (brought_in frames (first_use steps (t + 1)) seen (pages_of step) held p)).held).entries ++ rest))
+            → Right t before ((cond b (still held) (brought_in frames (first_use steps (t + 1)) seen (pages_of step) held p)).entries ++ ((all_brought_in frames (first_use steps (t + 1)) seen (pages_of step) todo (cond b (still held) (brought_in frames (first_use steps (t + 1)) seen (pages_of step) held p)).held).entries ++ rest))
         go true e others after later = others held before k after later
         go false e others after later =
             let now = (brought_in frames (first_use steps (t + 1)) seen (pages_of step) held p).held in
@@ -401,10 +410,10 @@ module _ (frames : ℕ) (instrs : List Instr) (places : List Place) (sound : IsS
           rw here its.ok
 
     walks : (n t : ℕ) (seen : List ℕ) (held : List Held) (before : List Replaced) → t + n ≡ length instrs → Known t seen → AllFit frames (drop t trace) → Ready frames places seen held
-        → ((S : List ℕ) → Follows frames t seen S held (drop t trace) before) → AreEntries before (rule_from frames places t seen held (drop t instrs) (drop t trace))
+        → ((S : List ℕ) → Follows frames t seen S held (drop t trace) before) → Right frames instrs places t before (rule_from frames places t seen held (drop t instrs) (drop t trace))
     walks zero t seen held before all known fit ready k =
         let ended : rule_from frames places t seen held (drop t instrs) (drop t trace) ≡ [] = at_drop_all (λ (rest : List Instr). rule_from frames places t seen held rest (drop t trace)) instrs t (omega (arith, all)) in
-        rw ended tt
+        rw ended (tt, λ have. tt)
     walks (suc n) t seen held before all known fit ready k =
         let in_instrs : t < length instrs = omega (arith, all) in
         let same = steps_are.count in
@@ -432,13 +441,12 @@ module _ (frames : ℕ) (instrs : List Instr) (places : List Place) (sound : IsS
         at_drop_more (λ xs. rule_from frames places t seen held xs (drop t trace)) instrs t no_instr in_instrs
         ∙ ap (λ ys. rule_from frames places t seen held (i ∷ drop (t + 1) instrs) ys) front in
         let as_many : length (drop (t + 1) instrs) ≡ length steps = lengths (t + 1) in
-        let done : AreEntries before (moved.entries ++ entry.Do (job_in moved.held places t i) ∷ rest) =
-        brings_all frames t seen step steps early fit_now.1 pages held before (entry.Do (job_in moved.held places t i) ∷ rest) (λ q m. m) now
-        (λ b h. (
-          tt,
-          walks n (t + 1) (seen ++ pages) after (entry.Do (job_in moved.held places t i) ∷ b) (omega (arith, all)) more fit_now.2 ready_then
-              (λ S. goes_on t i step steps seen is its early known S moved.held b c.has h),
-        ))
+        let done : Right frames instrs places t before (moved.entries ++ entry.Do (job_in moved.held places t i) ∷ rest) =
+        brings_all frames instrs places t seen step steps early fit_now.1 pages held before (entry.Do (job_in moved.held places t i) ∷ rest) (λ q m. m) now
+        (λ b h.
+        let right = walks n (t + 1) (seen ++ pages) after (entry.Do (job_in moved.held places t i) ∷ b) (omega (arith, all)) more fit_now.2 ready_then
+        (λ S. goes_on t i step steps seen is its early known S moved.held b c.has h) in
+        ((tt, right.0), λ have. (finds_places instrs places t i step moved.held b is its have c.has h.frame, right.1 have)))
         (λ q had absent used. loads_later frames places steps (drop (t + 1) instrs) (t + 1) (seen ++ pages) after q fit_now.2 ready_then as_many
         (list_any-append (nat_eq q) seen pages ∙ or_left (is_in q seen) (is_in q pages) had)
         (ap (is_in q) (resident-after (has_result i.op) (page_of t) moved.held) ∙ absent) used) in
@@ -447,8 +455,9 @@ module _ (frames : ℕ) (instrs : List Instr) (places : List Place) (sound : IsS
         lengths : (k : ℕ) → length (drop k instrs) ≡ length (drop k trace)
         lengths k = length-drop k instrs ∙ ap (λ m. m - k) (sym steps_are.count) ∙ sym (length-drop k trace)
 
-pub rule_lists_are_replaced : RuleListsAreReplaced
-rule_lists_are_replaced frames instrs places trace sound steps_are none =
+rule_lists_are_right : (frames : ℕ) (instrs : List Instr) (places : List Place) (trace : List Step) → IsSound instrs → AreSteps instrs places trace → tight_of frames 0 trace ≡ None
+    → Right frames instrs places 0 [] (rule_of frames instrs places trace)
+rule_lists_are_right frames instrs places trace sound steps_are none =
     walks frames instrs places sound trace steps_are none (length instrs) 0 [] [] [] (omega arith) (λ v less. absurd (omega (arith, less))) (AllFit-from_none frames 0 trace (each_step frames instrs places sound trace steps_are none) none) (at_first frames places) (λ S. record {
       distinct = tt;
       fits = omega arith;
@@ -458,3 +467,9 @@ rule_lists_are_replaced frames instrs places trace sound steps_are none =
       from = λ q m. absurd (false≢true m);
       saved = λ q m. absurd (false≢true m);
     })
+
+pub rule_lists_are_replaced : RuleListsAreReplaced
+rule_lists_are_replaced frames instrs places trace sound steps_are none = (rule_lists_are_right frames instrs places trace sound steps_are none).0
+
+pub rule_lists_find_places : RuleListsFindPlaces
+rule_lists_find_places frames instrs places trace sound have steps_are none = (rule_lists_are_right frames instrs places trace sound steps_are none).1 have

@@ -1,4 +1,6 @@
 pub mod Leaving
 pub mod Loading
 pub mod Entries
-pub mod Turns
+pub mod Planning
+pub mod Standing
+pub mod Bringing

@@ -1,2 +1,4 @@
 pub mod Replacing
-pub mod Carrying
+pub mod Planning
+pub mod Standing
+pub mod Bringing

@@ -1,6 +1,8 @@
 // What ties replacement to the schedule.
+ghost use Rattle.mage_schedulable.specs.Bringing.{RuleListsBringOnce};
 ghost use Rattle.mage_schedulable.specs.Replacing.{RuleListsAreReplaced};
-ghost use Rattle.mage_schedulable.specs.Carrying.{TurnsCarry};
+ghost use Rattle.mage_schedulable.specs.Planning.{PlansCarry, ProgramsCarry, SchedulesCarry};
+ghost use Rattle.mage_schedulable.specs.Standing.{RuleListsFindPlaces};
 
 /// The list of the replacement rule is one that the schedule takes: a page comes in new at most once, what is loaded was saved
 /// and isn't in memory, and what is saved leaves at once and is loaded later.
@@ -8,9 +10,32 @@ pub fn rule_lists_are_replaced()
     ensures { RuleListsAreReplaced }
 {}
 
-/// Where a worker's directives have their transfers in turn, as `mage_sched` says of what it makes, on pages of the store, and
-/// carry the worker's instructions with each write done when it is issued and each read when it is finished, they break no rule
-/// of the walk with slots, and leave nothing over.
-pub fn transfers_in_turn_carry()
-    ensures { TurnsCarry }
+/// In the list of the replacement rule each instruction finds its values at their places: the frame of each spot has the page of
+/// the value, and its offset is that of the value's place.
+pub fn rule_lists_find_places()
+    ensures { RuleListsFindPlaces }
+{}
+
+/// In the list of the replacement rule each page of each step comes in new once, and no page twice.
+pub fn rule_lists_bring_once()
+    ensures { RuleListsBringOnce }
+{}
+
+/// A list that the replacement rule makes, for whatever victims, and that carries a worker's instructions with each transfer done
+/// at once, is carried by its directives: scheduled and given store pages, they break no rule of the walk with slots, and leave
+/// nothing over. The buffer has a slot, or the list needs none.
+pub fn schedules_carry()
+    ensures { SchedulesCarry }
+{}
+
+/// Where a worker's instructions can run, and neither the page nor the frames nor the buffer is too small for them, what the
+/// passes make of them carries them: placed, replaced, scheduled and given store pages, each by its rule, the directives break no
+/// rule of the walk with slots, and leave nothing over.
+pub fn plans_carry()
+    ensures { PlansCarry }
+{}
+
+/// Where each worker's directives break no rule, their memory program carries the program.
+pub fn programs_carry()
+    ensures { ProgramsCarry }
 {}

@@ -1,7 +1,10 @@
-//! That the list of the replacement rule is one that can be scheduled, and that a schedule carries what it carries with
-//! transfers done at once: laws; nothing here runs.
+//! That the list of the replacement rule is one that can be scheduled, and that what all passes make of a program carries it:
+//! laws; nothing here runs.
 #![tactic(auto)]
 
 mod laws;
 
-pub use laws::{rule_lists_are_replaced, transfers_in_turn_carry};
+pub use laws::{
+    plans_carry, programs_carry, rule_lists_are_replaced, rule_lists_bring_once,
+    rule_lists_find_places, schedules_carry,
+};
