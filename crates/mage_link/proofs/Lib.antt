@@ -1,0 +1,5 @@
+mod PlaceLemmas
+mod QueueLemmas
+mod RowLemmas
+mod CallLemmas
+mod PopLemmas
