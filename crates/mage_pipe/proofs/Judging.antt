@@ -1,6 +1,7 @@
 -- What a worker's passes say of the definition.
-use Rattle.std.proofs.Common.{◌≡◌, ◌↔◌, ap, sym, List, Option, Some, None, Result, Ok, Err, IfOk, refl}
+use Rattle.std.proofs.Common.{◌≡◌, ◌↔◌, ◌∙◌, ap, sym, ℕ, List, Option, Some, None, Result, Ok, Err, IfOk, refl}
 use Rattle.std.specs.Option.{option_or}
+use Rattle.mage_instr.specs.declared.directive.Directive.{Directive}
 use Rattle.mage_instr.specs.declared.instr.Instr.{Instr}
 use Rattle.mage_instr.specs.declared.instr.Place.{Place}
 use Rattle.mage_instr.specs.declared.instr.Step.{Step}
@@ -11,8 +12,13 @@ use Rattle.mage_belady.specs.declared.fault.ReplaceError.{ReplaceError}
 use Rattle.mage_belady.specs.declared.fault.ReplaceError.TheVariants as errors
 use Rattle.mage_belady.specs.Rule.{rule_of, tight_of}
 use Rattle.mage_pipe.specs.Answer.{FailsTight, TightOrGives}
+use Rattle.mage_sched.specs.declared.fault.ScheduleError.{ScheduleError}
+use Rattle.mage_sched.specs.declared.fault.ScheduleError.TheVariants as schedule_errors
+use Rattle.mage_sched.specs.Homes.{Homed}
 use Rattle.mage_sched.specs.Schedule.{buffer_tight}
+use Rattle.mage_pipe.specs.MemoryProgram.{homed_with, directives_for, fitting_directives_of}
 use Rattle.mage_pipe.specs.Summary.{places_for, trace_for, list_for, cost_of, cost_for, unless_tight, fitting_stats_of}
+use Rattle.mage_schedulable.specs.Planning.{directives_of}
 
 -- an answer with a list, or with the step that is too tight
 pub answers_list : {X Y : Type 0} (view : X → Y) (answer : Result X ReplaceError) (o : Option Tight) (list : Y) → IfOk answer (λ x. view x ≡ list) → ((t : Tight) → (answer ≡ Err (errors.Tight t)) ↔ (o ≡ Some t)) → TightOrGives view answer (unless_tight o list)
@@ -44,3 +50,27 @@ module _ (limits : Limits) (instrs : List Instr) (places : List Place) (trace : 
   pub worker_fault : (fault : ReplaceError) → FailsTight fault (unless_tight (tight_of limits.frames 0 trace) (rule_of limits.frames instrs places trace)) → FailsTight fault (fitting_stats_of limits instrs)
   worker_fault (errors.Tight t) h = worker_tight t h
   worker_fault errors.Memory h = tt
+
+  -- so it is with its directives
+  pub worker_unplanned : (fault : ReplaceError) → FailsTight fault (unless_tight (tight_of limits.frames 0 trace) (rule_of limits.frames instrs places trace)) → FailsTight fault (fitting_directives_of limits instrs)
+  unfolding fitting_directives_of
+  worker_unplanned (errors.Tight t) h =
+      first_tight (tight_of limits.frames 0 (trace_for limits instrs)) (buffer_tight limits.buffer (list_for limits instrs)) (list_for limits instrs) (directives_for limits instrs) t (rw (are_places, are_steps) at h)
+  worker_unplanned errors.Memory h = tt
+
+  pub worker_planned : (list : List Replaced) → unless_tight (tight_of limits.frames 0 trace) (rule_of limits.frames instrs places trace) ≡ Ok list
+      → fitting_directives_of limits instrs ≡ unless_tight (buffer_tight limits.buffer list) (directives_of limits list)
+  unfolding fitting_directives_of
+  worker_planned list h =
+      let both = not_tight (tight_of limits.frames 0 (trace_for limits instrs)) (buffer_tight limits.buffer (list_for limits instrs)) (list_for limits instrs) list (directives_for limits instrs) (rw (are_places, are_steps) at h) in
+      rw (sym both.1) both.0
+
+-- a schedule that was made is the one of the definition, and the buffer isn't too small
+pub schedule_made : {X : Type 0} (r : Result X ScheduleError) (x : X) (o : Option Tight) (homed : Homed) (directives : List Directive) (store : ℕ) → r ≡ Ok x
+    → ((t : Tight) → (r ≡ Err (schedule_errors.Tight t)) ↔ (o ≡ Some t)) → directives ≡ homed.directives → store ≡ homed.count → unless_tight o homed ≡ Ok (homed_with directives store)
+schedule_made r x None homed directives store made tight d s = ap (λ (h : Homed). Ok h) (sym (ap (λ (xs : List Directive). homed_with xs store) d ∙ ap (homed_with homed.directives) s))
+schedule_made {X = X} r x (Some t) homed directives store made tight d s =
+    absurd (let never = (tight t).1 refl in not_both {X = X} x t (sym made ∙ never))
+  where
+    not_both : {X : Type 0} (x : X) (t : Tight) → ◌≡◌ {A = Result X ScheduleError} (Ok x) (Err (schedule_errors.Tight t)) → ⊥
+    not_both x t e = cc

@@ -4,3 +4,5 @@ mod JobCounts
 mod Judging
 pub mod LeastReads
 mod Walking
+mod Joining
+mod PlanningLemmas

@@ -3,3 +3,4 @@ pub mod Fronts
 pub mod Least
 pub mod Loading
 pub mod Summary
+pub mod MemoryProgram

@@ -6,6 +6,8 @@ mod fault;
 mod laws;
 mod loaded;
 mod loading;
+mod making;
+mod part;
 mod planning;
 mod stats;
 mod worker;
@@ -14,6 +16,7 @@ pub use fault::PlanFault;
 pub use laws::reads_are_least;
 pub use loaded::Loaded;
 pub use loading::load;
+pub use making::{memory_program, plan};
 pub use planning::{program_stats, summary};
 pub use stats::WorkerStats;
 

@@ -61,7 +61,7 @@ pub fn summary(alloc: Global, text: &[u8], limits: Limits) -> Result<Vec<WorkerS
 }
 
 // The source of a text, and its program.
-fn loaded(alloc: Global, text: &[u8]) -> Result<Loaded, PlanFault>
+pub(crate) fn loaded(alloc: Global, text: &[u8]) -> Result<Loaded, PlanFault>
     ensures loaded { Gives (λ loaded. loaded) result (or_language (loaded_of text.now)) }
     ensures sound { IfOk result (λ loaded. All IsSound loaded.program.workers) }
     ensures few { IfOk result (λ loaded. length loaded.program.workers ≤ most_workers) }

@@ -59,7 +59,7 @@ fn fitting_stats(
 }
 
 // The place of each result, and the pages that each instruction needs.
-fn placed(
+pub(crate) fn placed(
     alloc: Global,
     instrs: &[Instr],
     limits: Limits,
@@ -78,7 +78,7 @@ fn placed(
 }
 
 // The list of the instructions, with the pages that come and go in between.
-fn listed(
+pub(crate) fn listed(
     alloc: Global,
     instrs: &[Instr],
     places: &[Place],

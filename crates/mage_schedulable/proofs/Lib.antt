@@ -4,3 +4,4 @@ pub mod Entries
 pub mod Planning
 pub mod Standing
 pub mod Bringing
+pub mod PlansOf

@@ -2,3 +2,4 @@ pub mod Replacing
 pub mod Planning
 pub mod Standing
 pub mod Bringing
+pub mod PlanOf

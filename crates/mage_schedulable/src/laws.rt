@@ -1,5 +1,6 @@
 // What ties replacement to the schedule.
 ghost use Rattle.mage_schedulable.specs.Bringing.{RuleListsBringOnce};
+ghost use Rattle.mage_schedulable.specs.PlanOf.{PassesPlan};
 ghost use Rattle.mage_schedulable.specs.Replacing.{RuleListsAreReplaced};
 ghost use Rattle.mage_schedulable.specs.Planning.{PlansCarry, ProgramsCarry, SchedulesCarry};
 ghost use Rattle.mage_schedulable.specs.Standing.{RuleListsFindPlaces};
@@ -38,4 +39,12 @@ pub fn plans_carry()
 /// Where each worker's directives break no rule, their memory program carries the program.
 pub fn programs_carry()
     ensures { ProgramsCarry }
+{}
+
+/// What the passes make of the workers of a program is a plan of it, by a definition that knows no pass (`IsPlanOf`): it carries
+/// the program; read off its directives, each instruction finds its values at the places of the rule of placement, each page of
+/// the trace comes in new once, no plan of residency reads fewer pages, each read is issued in the gap of the formula, and the
+/// transfers are on the homes of their pages. The instructions can run, and no limit is too low for them.
+pub fn passes_plan()
+    ensures { PassesPlan }
 {}

@@ -5,6 +5,6 @@
 mod laws;
 
 pub use laws::{
-    plans_carry, programs_carry, rule_lists_are_replaced, rule_lists_bring_once,
+    passes_plan, plans_carry, programs_carry, rule_lists_are_replaced, rule_lists_bring_once,
     rule_lists_find_places, schedules_carry,
 };
