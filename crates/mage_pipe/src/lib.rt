@@ -1,4 +1,5 @@
-//! The passes of the planner in a row: from a text to the program that it unrolls to, and what a plan for it costs.
+//! The passes of the planner in a row: from a text to the program that it unrolls to, what a plan for it costs, and its memory
+//! program.
 #![tactic(auto)]
 
 mod counts;
