@@ -30,7 +30,7 @@ pub record CanUse (port : LinkTold) (me other : ℕ) : Type 0 where
 -- the port serves so many workers, and each of them may be `me`
 pub record ServesAll (port : LinkTold) (workers : ℕ) : Type 0 where
   pub workers_are : port.workers ≡ workers
-  pub all : (me : ℕ) → IsTrue (port.may_be_me me)
+  pub all : (me : ℕ) → me < workers → IsTrue (port.may_be_me me)
 
 -- nothing was sent or received yet
 pub record IsUnused (port : LinkTold) : Type 0 where
