@@ -1,0 +1,3 @@
+pub mod Banking
+mod Packing
+pub mod Fitting
