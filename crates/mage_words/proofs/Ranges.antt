@@ -17,7 +17,7 @@ use Rattle.mage_words.specs.declared.option.OptionName.{OptionName}
 use Rattle.mage_words.specs.declared.option.OptionName.TheVariants as option
 use Rattle.mage_words.specs.Commands.{command_named, rules_of}
 use Rattle.mage_words.specs.Options.{shortest_page, longest_page, rule_of}
-use Rattle.mage_words.specs.Words.{◌>>=◌, Pair, Request, Solo, SoloRequest, Stats, StatsRequest, asked_of, asked_of_pairs, driver_of, if_power_of_two, if_within, is_number, limits_in, limits_of, number, number_in, pairs_of, request_of, solo_of_values, stats_of_values, takes, value_of}
+use Rattle.mage_words.specs.Words.{◌>>=◌, LimitsAreInRange, Pair, Request, Solo, SoloRequest, Stats, StatsRequest, Deal, asked_of, asked_of_pairs, driver_of, if_power_of_two, if_within, is_number, limits_of, number, number_in, pairs_of, request_of, solo_of_values, stats_of_values, deal_of_values, takes, value_of}
 use Rattle.mage_words.specs.Answers.{Reads}
 use Rattle.mage_words.proofs.Rows.{both}
 use Rattle.clap.specs.Walk.{Text}
@@ -133,24 +133,27 @@ module _ (value : OptionName → Option Text) where
       let limits = then_some (limits_of value) _ stats source.2 in
       subst AreInRange (ap (λ o. (unwrap_or o stats).limits) limits.2) (limits_are limits.0 limits.1)
 
-  asked_limits : (name : CommandName) (request : Request) → asked_of name value ≡ Some request → AreInRange (limits_in request)
+  asked_limits : (name : CommandName) (request : Request) → asked_of name value ≡ Some request → LimitsAreInRange request
   asked_limits command.Solo request is =
       let solo = map_some Solo (solo_of_values value) request is in
-      subst (λ r. AreInRange (limits_in r)) solo.2 (solo_limits solo.0 solo.1)
+      subst (λ r. LimitsAreInRange r) solo.2 (solo_limits solo.0 solo.1)
   asked_limits command.Stats request is =
       let stats = map_some Stats (stats_of_values value) request is in
-      subst (λ r. AreInRange (limits_in r)) stats.2 (stats_limits stats.0 stats.1)
+      subst (λ r. LimitsAreInRange r) stats.2 (stats_limits stats.0 stats.1)
+  asked_limits command.Deal request is =
+      let deal = map_some Deal (deal_of_values value) request is in
+      subst (λ r. LimitsAreInRange r) deal.2 tt
 
 -- ---- what words ask for
 
-pairs_limits : (name : CommandName) (pairs : List Pair) (request : Request) → asked_of_pairs name pairs ≡ Some request → AreInRange (limits_in request)
+pairs_limits : (name : CommandName) (pairs : List Pair) (request : Request) → asked_of_pairs name pairs ≡ Some request → LimitsAreInRange request
 pairs_limits name pairs request = go (takes (rules_of name) pairs)
   where
-    go : (b : Bool) → cond b (asked_of name (λ option. value_of pairs (rule_of option))) None ≡ Some request → AreInRange (limits_in request)
+    go : (b : Bool) → cond b (asked_of name (λ option. value_of pairs (rule_of option))) None ≡ Some request → LimitsAreInRange request
     go false is = cc
     go true is = asked_limits (λ option. value_of pairs (rule_of option)) name request is
 
-request_limits : (words : List Text) (request : Request) → request_of words ≡ Some request → AreInRange (limits_in request)
+request_limits : (words : List Text) (request : Request) → request_of words ≡ Some request → LimitsAreInRange request
 unfolding request_of
 request_limits [] request is = cc
 request_limits (word ∷ words) request is =
@@ -159,6 +162,6 @@ request_limits (word ∷ words) request is =
     pairs_limits name.0 pairs.0 request pairs.2
 
 pub read_limits : {X : Type 0} (view : X → Request) (words : List Text) (r : Result X WordsFault) → Reads view (request_of words) r
-    → IfOk r (λ x. AreInRange (limits_in (view x)))
+    → IfOk r (λ x. LimitsAreInRange (view x))
 read_limits view words (Ok x) is = request_limits words (view x) is
 read_limits view words (Err fault) is = tt

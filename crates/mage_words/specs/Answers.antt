@@ -9,8 +9,9 @@ use Rattle.mage_words.specs.declared.request.Request as code_request
 use Rattle.mage_words.specs.declared.request.Request.TheVariants as code
 use Rattle.mage_words.specs.declared.request.Solo as code_solo
 use Rattle.mage_words.specs.declared.request.Stats as code_stats
+use Rattle.mage_words.specs.declared.request.Deal as code_deal
 use Rattle.mage_words.specs.Options.{rule_of}
-use Rattle.mage_words.specs.Words.{Request, Solo, SoloRequest, Stats, StatsRequest}
+use Rattle.mage_words.specs.Words.{Request, Solo, SoloRequest, Stats, StatsRequest, Deal, DealRequest}
 
 -- what the code's requests hold
 abbrev pub solo_view : code_solo.Solo → SoloRequest
@@ -25,9 +26,18 @@ solo_view solo = record {
 abbrev pub stats_view : code_stats.Stats → StatsRequest
 stats_view stats = record { source = stats.source.now; limits = stats.limits }
 
+abbrev pub deal_view : code_deal.Deal → DealRequest
+deal_view deal = record {
+  source = deal.source.now;
+  evaluator = option_map (λ name. name.now) deal.evaluator;
+  seed = deal.seed.now;
+  labels = deal.labels.now;
+}
+
 abbrev pub request_view : code_request.Request → Request
 request_view (code.Solo solo) = Solo (solo_view solo)
 request_view (code.Stats stats) = Stats (stats_view stats)
+request_view (code.Deal deal) = Deal (deal_view deal)
 
 -- the value that matches have for an option
 abbrev pub value_in : Found → OptionName → Option (List ℕ)

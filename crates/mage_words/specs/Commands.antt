@@ -26,10 +26,12 @@ abbrev pub command_rule : CommandName → CommandRule
 command_rule command.Solo = command_row (codes "solo")
     (option.Source ∷ option.Garbler ∷ option.Evaluator ∷ option.Driver ∷ limit_options)
 command_rule command.Stats = command_row (codes "stats") (option.Source ∷ limit_options)
+command_rule command.Deal = command_row (codes "deal")
+    (option.Source ∷ option.Evaluator ∷ option.Seed ∷ option.Labels ∷ [])
 
 -- all commands
 abbrev pub commands : List CommandName
-commands = command.Solo ∷ command.Stats ∷ []
+commands = command.Solo ∷ command.Stats ∷ command.Deal ∷ []
 
 -- the command that a word names
 abbrev pub command_named : List ℕ → Option CommandName

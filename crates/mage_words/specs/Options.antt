@@ -43,6 +43,8 @@ rule_of option.Page = row (codes "page") (PowerOfTwo shortest_page longest_page)
 rule_of option.Frames = row (codes "frames") (Number 1 most_frames) (Default (codes "64"))
 rule_of option.Buffer = row (codes "buffer") (Number 0 most_slots) (Default (codes "8"))
 rule_of option.Ahead = row (codes "ahead") (Number 0 most_ahead) (Default (codes "64"))
+rule_of option.Seed = row (codes "seed") File Required
+rule_of option.Labels = row (codes "labels") File Required
 
 -- what a row of the code's table says
 abbrev pub absence_view : code_absence.Absence → Absence

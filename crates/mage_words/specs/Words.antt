@@ -9,7 +9,7 @@ use Rattle.std.specs.Str.{bytes_eq}
 use Rattle.std.specs.Str.Parse.{digits_value}
 use Rattle.std.specs.declared.alloc.Global.{Global}
 use Rattle.mage_instr.specs.declared.replaced.Limits.{Limits}
-use Rattle.mage_instr.specs.Limits.{most_wires}
+use Rattle.mage_instr.specs.Limits.{AreInRange, most_wires}
 use Rattle.mage_words.specs.declared.option.OptionName.{OptionName}
 use Rattle.mage_words.specs.declared.option.OptionName.TheVariants as option
 use Rattle.mage_words.specs.declared.option.Kind.{Kind}
@@ -138,20 +138,30 @@ pub record StatsRequest : Type 0 where
   pub source : List ℕ
   pub limits : Limits
 
+-- what `deal` is asked for
+pub record DealRequest : Type 0 where
+  pub source : List ℕ
+  pub evaluator : Option (List ℕ)
+  pub seed : List ℕ
+  pub labels : List ℕ
+
 -- what a command is asked for
 pub data Request : Type 0 where
   Solo : SoloRequest → Request
   Stats : StatsRequest → Request
+  Deal : DealRequest → Request
 
 -- the name of the source's file
 abbrev pub source_in : Request → List ℕ
 source_in (Solo solo) = solo.source
 source_in (Stats stats) = stats.source
+source_in (Deal deal) = deal.source
 
--- what a plan may use
-abbrev pub limits_in : Request → Limits
-limits_in (Solo solo) = solo.limits
-limits_in (Stats stats) = stats.limits
+-- what a plan may use is in range; `deal` makes no plan
+abbrev pub LimitsAreInRange : Request → Type 0
+LimitsAreInRange (Solo solo) = AreInRange solo.limits
+LimitsAreInRange (Stats stats) = AreInRange stats.limits
+LimitsAreInRange (Deal deal) = Unit {0}
 
 -- Below, `value` has the value of each option.
 module _ (value : OptionName → Option (List ℕ)) where
@@ -189,10 +199,24 @@ module _ (value : OptionName → Option (List ℕ)) where
     limits ← limits_of
     Some (record { source = source; limits = limits })
 
+  -- what the values ask `deal` for
+  unfoldable pub deal_of_values : Option DealRequest
+  deal_of_values = do
+    source ← value option.Source
+    seed ← value option.Seed
+    labels ← value option.Labels
+    Some (record {
+      source = source;
+      evaluator = value option.Evaluator;
+      seed = seed;
+      labels = labels;
+    })
+
 -- what the values of its options ask a command for
 abbrev pub asked_of : CommandName → (OptionName → Option (List ℕ)) → Option Request
 asked_of command.Solo value = option_map Solo (solo_of_values value)
 asked_of command.Stats value = option_map Stats (stats_of_values value)
+asked_of command.Deal value = option_map Deal (deal_of_values value)
 
 -- what pairs ask a command for
 abbrev pub asked_of_pairs : CommandName → List Pair → Option Request

@@ -1,12 +1,12 @@
 // What the values of a command's options ask it for.
 ghost use Rattle.std.specs.Prelude.{◌≡◌, option_map};
 ghost use Rattle.clap.specs.Words.{found_of};
-ghost use Rattle.mage_words.specs.Words.{asked_of, solo_of_values, stats_of_values};
-ghost use Rattle.mage_words.specs.Answers.{request_view, solo_view, stats_view, value_in};
+ghost use Rattle.mage_words.specs.Words.{asked_of, solo_of_values, stats_of_values, deal_of_values};
+ghost use Rattle.mage_words.specs.Answers.{request_view, solo_view, stats_view, deal_view, value_in};
 
 use crate::command::CommandName;
 use crate::option::OptionName;
-use crate::request::{Request, Solo, Stats};
+use crate::request::{Deal, Request, Solo, Stats};
 use crate::values::{driver_of, limits, value};
 use clap::ArgMatches;
 
@@ -36,6 +36,21 @@ fn stats_of<'a>(matches: &ArgMatches<'a>) -> Option<Stats<'a>>
     })
 }
 
+#[tactic(auto, unfolding(crate::specs::Words::deal_of_values))]
+fn deal_of<'a>(matches: &ArgMatches<'a>) -> Option<Deal<'a>>
+    ensures { option_map deal_view result ≡ deal_of_values (value_in (found_of matches.now)) }
+{
+    let source = value(matches, OptionName::Source)?;
+    let seed = value(matches, OptionName::Seed)?;
+    let labels = value(matches, OptionName::Labels)?;
+    Some(Deal {
+        source,
+        evaluator: value(matches, OptionName::Evaluator),
+        seed,
+        labels,
+    })
+}
+
 /// What the values of the command's options ask it for.
 pub fn asked_of<'a>(command: CommandName, matches: &ArgMatches<'a>) -> Option<Request<'a>>
     ensures { option_map request_view result ≡ asked_of command (value_in (found_of matches.now)) }
@@ -43,5 +58,6 @@ pub fn asked_of<'a>(command: CommandName, matches: &ArgMatches<'a>) -> Option<Re
     match command {
         CommandName::Solo => Some(Request::Solo(solo_of(matches)?)),
         CommandName::Stats => Some(Request::Stats(stats_of(matches)?)),
+        CommandName::Deal => Some(Request::Deal(deal_of(matches)?)),
     }
 }

@@ -9,6 +9,7 @@ use crate::option::OptionName;
 pub enum CommandName {
     Solo,
     Stats,
+    Deal,
 }
 
 /// One row of the table: the command's word, and the options that it takes.
@@ -18,7 +19,7 @@ pub struct CommandRule {
     pub options: &'static [OptionName],
 }
 
-const COMMANDS: [CommandName; 2] = [CommandName::Solo, CommandName::Stats];
+const COMMANDS: [CommandName; 3] = [CommandName::Solo, CommandName::Stats, CommandName::Deal];
 
 const SOLO: [OptionName; 8] = [
     OptionName::Source,
@@ -39,6 +40,13 @@ const STATS: [OptionName; 5] = [
     OptionName::Ahead,
 ];
 
+const DEAL: [OptionName; 4] = [
+    OptionName::Source,
+    OptionName::Evaluator,
+    OptionName::Seed,
+    OptionName::Labels,
+];
+
 /// The row of a command. Its word names it, and no other command.
 pub fn command_rule(command: CommandName) -> CommandRule
     ensures row { command_view result ≡ command_rule command }
@@ -52,6 +60,10 @@ pub fn command_rule(command: CommandName) -> CommandRule
         CommandName::Stats => CommandRule {
             name: "stats",
             options: &STATS,
+        },
+        CommandName::Deal => CommandRule {
+            name: "deal",
+            options: &DEAL,
         },
     }
 }

@@ -9,6 +9,8 @@ pub enum OptionName {
     Frames,
     Buffer,
     Ahead,
+    Seed,
+    Labels,
 }
 
 /// What the value of an option has to be.

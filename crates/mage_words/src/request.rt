@@ -15,6 +15,8 @@ pub enum Request<'a> {
     Solo(Solo<'a>),
     /// To say what a plan for a source costs.
     Stats(Stats<'a>),
+    /// To write the labels that the evaluator's inputs have.
+    Deal(Deal<'a>),
 }
 
 /// What `solo` is asked for.
@@ -36,4 +38,17 @@ pub struct Stats<'a> {
     /// The file of the source.
     pub source: &'a str,
     pub limits: Limits,
+}
+
+/// What `deal` is asked for.
+#[derive(Clone, Copy)]
+pub struct Deal<'a> {
+    /// The file of the source.
+    pub source: &'a str,
+    /// The file of the evaluator's input text. Without one the text is empty.
+    pub evaluator: Option<&'a str>,
+    /// The file of the seed.
+    pub seed: &'a str,
+    /// What the names of the label files begin with.
+    pub labels: &'a str,
 }

@@ -60,6 +60,8 @@ pub fn rule_of(option: OptionName) -> OptionRule
             },
             Absence::Default("64"),
         ),
+        OptionName::Seed => ("seed", Kind::File, Absence::Required),
+        OptionName::Labels => ("labels", Kind::File, Absence::Required),
     };
     OptionRule {
         name,

@@ -1,5 +1,5 @@
 // Words that ask for something, with the values that stand by default, and words that don't.
-use super::{Driver, Request, Solo, Stats, WordsFault, read_words};
+use super::{Deal, Driver, Request, Solo, Stats, WordsFault, read_words};
 use mage_instr::Limits;
 use std::alloc::{AllocError, Global};
 use std::process::Abort;
@@ -26,6 +26,14 @@ fn solo_in(alloc: Global, words: &[String]) -> Option<Solo<'_>> {
 fn stats_in(alloc: Global, words: &[String]) -> Option<Stats<'_>> {
     match read_words(alloc, words) {
         Ok(Request::Stats(stats)) => Some(stats),
+        _ => None,
+    }
+}
+
+// What the words ask `deal` for, where they do.
+fn deal_in(alloc: Global, words: &[String]) -> Option<Deal<'_>> {
+    match read_words(alloc, words) {
+        Ok(Request::Deal(deal)) => Some(deal),
         _ => None,
     }
 }
@@ -299,6 +307,54 @@ fn limits_of_stats(rt: HostRuntime) -> Result<(), Fail> {
                 limits(65_536, 64, 0, 64),
             ),
         ],
+    )
+}
+
+#[test]
+fn words_that_ask_deal_for_nothing(rt: HostRuntime) -> Result<(), Fail> {
+    refused(
+        &rt,
+        rt.alloc(),
+        &[
+            "deal",
+            "deal --source s",
+            "deal --source s --seed d",
+            "deal --source s --labels p",
+            "deal --seed d --labels p",
+            "deal --source s --seed d --labels",
+            "deal --source s --seed d --labels -p",
+            "deal --source s --seed d --labels p --labels p",
+            "deal --source s --seed d --seed d --labels p",
+            "deal --source s --seed d --labels p --garbler g",
+            "deal --source s --seed d --labels p --driver plain",
+            "deal --source s --seed d --labels p --page 64",
+            "deal --source s --seed d --labels p --stream t",
+            "deals --source s --seed d --labels p",
+            "Deal --source s --seed d --labels p",
+        ],
+    )
+}
+
+// The line asks `deal` for these files.
+fn dealt(rt: &impl Abort, alloc: Global, line: &str, evaluator: Option<&str>) -> Result<(), Fail> {
+    let words = words_of(alloc, line)?;
+    let deal = deal_in(alloc, &words).ok_or("refused")?;
+    assert!(rt;
+        deal.source == "s" && deal.seed == "d" && deal.labels == "p",
+        "{line}"
+    );
+    assert!(rt; deal.evaluator == evaluator, "{line}");
+    Ok(())
+}
+
+#[test]
+fn files_of_deal(rt: HostRuntime) -> Result<(), Fail> {
+    dealt(&rt, rt.alloc(), "deal --source s --seed d --labels p", None)?;
+    dealt(
+        &rt,
+        rt.alloc(),
+        "deal --labels p --evaluator e --seed d --source s",
+        Some("e"),
     )
 }
 

@@ -1,7 +1,6 @@
 // What words ask for.
 ghost use Rattle.std.specs.Prelude.{◌≡◌, IfOk};
-ghost use Rattle.mage_instr.specs.Limits.{AreInRange};
-ghost use Rattle.mage_words.specs.Words.{bytes_of_words, command_in, limits_in, request_of};
+ghost use Rattle.mage_words.specs.Words.{LimitsAreInRange, bytes_of_words, command_in, request_of};
 ghost use Rattle.mage_words.specs.Answers.{request_view, Reads};
 
 use crate::WordsFault;
@@ -46,7 +45,7 @@ fn asked<'a>(alloc: Global, words: &'a [String]) -> Result<Request<'a>, WordsFau
 /// comes exactly where the words aren't so, unless `Memory` comes first, of which no clause says when it comes.
 pub fn read_words(alloc: Global, words: &[String]) -> Result<Request<'_>, WordsFault>
     ensures asked { Reads request_view (request_of (bytes_of_words words.now)) result }
-    ensures in_range { IfOk result (λ request. AreInRange (limits_in (request_view request))) }
+    ensures in_range { IfOk result (λ request. LimitsAreInRange (request_view request)) }
 {
     asked(alloc, words)
 }
