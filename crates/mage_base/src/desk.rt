@@ -60,11 +60,15 @@ pub trait Desk {
         ensures steady { IsTrue (tells self.old).steady → IsNoFault result }
         ensures rest { OpensOut (tells self.old) (tells self.new) name.now result };
 
-    /// Takes a sink back: the file is what it took, or after `Failed` a front of that. Its faults are counted.
+    /// Takes a sink back: the file is what it took, or after `Failed` a front of that. Its faults are counted: the count never
+    /// falls, and stays where the sink has none and closing doesn't fail.
     fn close_out(&mut self, name: &str, sink: Self::Output) -> Result<(), Failed>
         requires { IfSome (tells self.old).files (λ files. IsSome (files name.now)) }
         ensures closed { ClosesOut (tells self.old) (tells self.new) name.now
             (Self.Output.tells sink) result }
+        ensures rises { (tells self.old).faults ≤ (tells self.new).faults }
+        ensures quiet { (Self.Output.tells sink).faults ≡ 0
+            → OnOk result ((tells self.new).faults ≡ (tells self.old).faults) }
         ensures steady { IsTrue (tells self.old).steady → IsOk result };
 
     /// A store for a shard of a worker, with pages of `page_bytes` bytes each, to which nothing was written yet. On a

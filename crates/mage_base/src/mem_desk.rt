@@ -223,6 +223,8 @@ impl Desk for MemDesk {
     /// A call that is to fail leaves the file empty.
     fn close_out(&mut self, name: &str, sink: MemSink) -> Result<(), Failed>
         requires { IsSome (files_of self.old name.now) }
+        ensures rises { self.old.faults ≤ self.new.faults }
+        ensures quiet { sink.faults ≡ 0 → OnOk result (self.new.faults ≡ self.old.faults) }
         ensures steady { IsTrue (desk_told self.old).steady → IsOk result }
 
         ensures failed { IsErr result ↔ IsTrue (is_listed self.old.calls) }
