@@ -25,6 +25,7 @@ answers steady outcome before after (refusal.Limits worker tight) h =
 answers steady outcome before after (refusal.InputLine party line) h =
     (refusal.InputLine party line, h)
 answers steady outcome before after (refusal.InputTooLong party) h = (refusal.InputTooLong party, h)
+answers steady outcome before after refusal.InputSeed h = (refusal.InputSeed, h)
 answers steady outcome before after refusal.Desk h = (refusal.Desk, h)
 answers steady outcome before after refusal.Memory h = (refusal.Memory, h)
 
@@ -69,7 +70,7 @@ module _ (steady : Bool) (own warned : Refusal) (answer : Status) (is : answer �
     (same : IsOrMemory own warned) (before between after : DeskTold)
     (warns : WarnsLine (line_of warned) between after)
   where
-    answered : (outcome : Result Done Refusal)
+    pub answered : (outcome : Result Done Refusal)
         → Works {T = Unit {0}} steady outcome (Err own) before between
         → Answers steady outcome answer before after
     answered outcome works = answered_as outcome same works where

@@ -1,3 +1,5 @@
 pub mod StepLemmas
 pub mod AnswerLemmas
 pub mod WordsLemmas
+pub mod WritingLemmas
+mod PerformLemmas

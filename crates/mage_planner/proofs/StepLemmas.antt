@@ -4,11 +4,11 @@ use Rattle.mage_chains.specs.Chains.{◌>>=◌}
 use Rattle.mage_instr.specs.declared.party.Party.TheVariants as party
 use Rattle.mage_pipe.specs.declared.loaded.Loaded.{Loaded}
 use Rattle.mage_pipe.specs.declared.stats.WorkerStats.{WorkerStats}
-use Rattle.mage_words.specs.Words.{SoloRequest, StatsRequest, request_of}
+use Rattle.mage_words.specs.Words.{SoloRequest, StatsRequest, DealRequest, request_of}
 use Rattle.mage_planner.specs.declared.refusal.Refusal.{Refusal}
 use Rattle.mage_planner.specs.declared.refusal.Refusal.TheVariants as refusal
 use Rattle.mage_planner.specs.SummaryText.{summary_text}
-use Rattle.mage_planner.specs.Outcome.{File, Absent, Found, Done, says, source_of, costs_of, planned_of, numbers_of, said_of, solo_outcome, stats_outcome, outcome_for, outcome_of}
+use Rattle.mage_planner.specs.Outcome.{File, Absent, Found, Done, says, deals, source_of, costs_of, planned_of, numbers_of, seed_of, said_of, solo_outcome, stats_outcome, deal_outcome, outcome_for, outcome_of}
 use Rattle.mage_planner.specs.Steps.{Refuses}
 
 -- ---- chains
@@ -38,14 +38,19 @@ both_done r x f y done done_too = ap (λ step. step >>= f) done ∙ done_too
 -- ---- what is found where no more is read than the source, the source and the garbler's text, or all three
 
 abbrev pub only_source : File → Found
-only_source file = record { source = file; garbler = Absent; evaluator = Absent }
+only_source file = record { source = file; garbler = Absent; evaluator = Absent; seed = Absent }
 
 abbrev pub source_garbler : File → File → Found
-source_garbler source garbler = record { source = source; garbler = garbler; evaluator = Absent }
+source_garbler source garbler =
+    record { source = source; garbler = garbler; evaluator = Absent; seed = Absent }
 
 abbrev pub all_three : File → File → File → Found
 all_three source garbler evaluator =
-    record { source = source; garbler = garbler; evaluator = evaluator }
+    record { source = source; garbler = garbler; evaluator = evaluator; seed = Absent }
+
+abbrev pub for_deal : (source evaluator seed : File) → Found
+for_deal source evaluator seed =
+    record { source = source; garbler = Absent; evaluator = evaluator; seed = seed }
 
 -- ---- `solo`
 
@@ -139,6 +144,62 @@ unfolding stats_outcome
 stats-all stats file loaded costs read counted =
     both_done (source_of file) loaded (to_costs stats) (says (summary_text costs)) read
     (ap (λ step. step >>= to_text) counted)
+
+-- ---- `deal`
+
+-- what comes after the seed
+abbrev to_files : DealRequest → Loaded → (evaluator : List (List ℕ)) → (seed : List ℕ) → Result Done Refusal
+to_files deal loaded evaluator seed = Ok (deals deal.labels loaded.program seed evaluator)
+
+-- what comes after the evaluator's numbers
+abbrev to_seed : DealRequest → (seed : File) → Loaded → (evaluator : List (List ℕ)) → Result Done Refusal
+to_seed deal seed loaded evaluator = seed_of seed >>= to_files deal loaded evaluator
+
+-- what comes after the source
+abbrev to_numbers : DealRequest → (evaluator seed : File) → Loaded → Result Done Refusal
+to_numbers deal evaluator seed loaded =
+    numbers_of party.Evaluator loaded evaluator >>= to_seed deal seed loaded
+
+-- the source is refused
+pub deal-source : (deal : DealRequest) (file : File) (s : Refusal)
+    → Refuses true s (source_of file) → Refuses true s (deal_outcome (only_source file) deal)
+unfolding deal_outcome
+deal-source deal file s refused = at_first s (source_of file) (to_numbers deal Absent Absent) refused
+
+-- the evaluator's text is refused
+pub deal-evaluator : (deal : DealRequest) (file evaluator : File) (loaded : Loaded) (s : Refusal)
+    → source_of file ≡ Ok loaded → Refuses true s (numbers_of party.Evaluator loaded evaluator)
+    → Refuses true s (deal_outcome (for_deal file evaluator Absent) deal)
+unfolding deal_outcome
+deal-evaluator deal file evaluator loaded s read refused =
+    after_first s (source_of file) loaded (to_numbers deal evaluator Absent) read
+    (at_first s (numbers_of party.Evaluator loaded evaluator) (to_seed deal Absent loaded) refused)
+
+-- the seed is refused
+pub deal-seed : (deal : DealRequest) (file evaluator seed : File) (loaded : Loaded)
+    (numbers : List (List ℕ)) (s : Refusal)
+    → source_of file ≡ Ok loaded → numbers_of party.Evaluator loaded evaluator ≡ Ok numbers
+    → Refuses true s (seed_of seed)
+    → Refuses true s (deal_outcome (for_deal file evaluator seed) deal)
+unfolding deal_outcome
+deal-seed deal file evaluator seed loaded numbers s read read_too refused =
+    after_first s (source_of file) loaded (to_numbers deal evaluator seed) read
+    (after_first s (numbers_of party.Evaluator loaded evaluator) numbers (to_seed deal seed loaded) read_too
+    (at_first s (seed_of seed) (to_files deal loaded numbers) refused))
+
+-- all is read
+pub deal-all : (deal : DealRequest) (file evaluator seed : File) (loaded : Loaded)
+    (numbers : List (List ℕ)) (bytes : List ℕ)
+    → source_of file ≡ Ok loaded → numbers_of party.Evaluator loaded evaluator ≡ Ok numbers
+    → seed_of seed ≡ Ok bytes
+    → deal_outcome (for_deal file evaluator seed) deal
+    ≡ Ok (deals deal.labels loaded.program bytes numbers)
+unfolding deal_outcome
+deal-all deal file evaluator seed loaded numbers bytes read read_too has =
+    let done = deals deal.labels loaded.program bytes numbers in
+    both_done (source_of file) loaded (to_numbers deal evaluator seed) done read
+    (both_done (numbers_of party.Evaluator loaded evaluator) numbers (to_seed deal seed loaded) done read_too
+    (ap (λ step. step >>= to_files deal loaded numbers) has))
 
 -- ---- the words
 

@@ -1,5 +1,5 @@
 -- Only words that ask for nothing come to the refusal of words.
-use Rattle.std.proofs.Common.{◌≡◌, ℕ, List, true, Option, Some, None, Result, Ok, Err, ok_or, refl, inl, inr}
+use Rattle.std.proofs.Common.{◌≡◌, ◌==◌, ℕ, List, [], length, Bool, cond, true, false, Option, Some, None, Result, Ok, Err, ok_or, refl, sym, ap, inl, inr}
 use Rattle.mage_chains.specs.Chains.{◌>>=◌}
 use Rattle.mage_base.specs.Desk.{DeskTold}
 use Rattle.mage_instr.specs.declared.party.Party.{Party}
@@ -14,16 +14,16 @@ use Rattle.mage_pipe.specs.declared.fault.PlanFault.TheVariants as plan
 use Rattle.mage_pipe.specs.Loading.{loaded_of}
 use Rattle.mage_pipe.specs.Summary.{stats_of}
 use Rattle.mage_texts.specs.InputText.{inputs_of}
-use Rattle.mage_words.specs.Words.{Request, Solo, Stats, SoloRequest, StatsRequest, request_of}
+use Rattle.mage_words.specs.Words.{Request, Solo, Stats, Deal, SoloRequest, StatsRequest, DealRequest, request_of}
 use Rattle.mage_planner.specs.declared.refusal.Refusal.{Refusal}
 use Rattle.mage_planner.specs.declared.refusal.Refusal.TheVariants as refusal
 use Rattle.mage_planner.specs.declared.status.Status.{Status}
 use Rattle.mage_planner.specs.declared.status.Status.TheVariants as status
 use Rattle.mage_planner.specs.Lines.{status_of}
-use Rattle.mage_planner.specs.Outcome.{File, Absent, Long, Held, Found, Done, says, bytes_or, or_language, or_limits, or_line, long_source, said_of, source_of, costs_of, if_planned, planned_of, numbers_of, solo_outcome, stats_outcome, outcome_for, outcome_of}
+use Rattle.mage_planner.specs.Outcome.{File, Absent, Long, Held, Found, Done, SEED_BYTES, says, deals, bytes_or, or_language, or_limits, or_line, long_source, said_of, source_of, costs_of, if_planned, if_seed, seed_of, planned_of, numbers_of, solo_outcome, stats_outcome, deal_outcome, outcome_for, outcome_of}
 use Rattle.mage_planner.specs.SummaryText.{summary_text}
 use Rattle.mage_planner.specs.Warned.{IsOrMemory}
-use Rattle.mage_planner.specs.Answer.{Works, ComesFrom, IsWordsOrMemory}
+use Rattle.mage_planner.specs.Answer.{Works, ComesFrom, IsWordsOrMemory, WritesNoFile, files_of}
 
 -- another refusal than that of the words, or none
 abbrev IsOther : Refusal → Type 0
@@ -109,9 +109,29 @@ stats_other found stats =
     then_other (costs_of stats.limits loaded) (λ costs. Ok (says (summary_text costs)))
     (costs_other stats.limits loaded) (λ costs. tt))
 
+if_seed_other : (bytes : List ℕ) → NoWords (if_seed bytes)
+if_seed_other bytes = go (length bytes == SEED_BYTES) where
+  go : (b : Bool) → NoWords (cond b (Ok bytes) (Err refusal.InputSeed))
+  go true = tt
+  go false = tt
+
+seed_other : (file : File) → NoWords (seed_of file)
+unfolding seed_of
+seed_other file = then_other (bytes_or refusal.InputSeed file) if_seed (bytes_other refusal.InputSeed file tt) if_seed_other
+
+deal_other : (found : Found) (deal : DealRequest) → NoWords (deal_outcome found deal)
+unfolding deal_outcome
+deal_other found deal =
+    then_other (source_of found.source) _ (source_other found.source) (λ loaded.
+    then_other (numbers_of party.Evaluator loaded found.evaluator) _
+    (numbers_other party.Evaluator loaded found.evaluator) (λ evaluator.
+    then_other (seed_of found.seed) (λ seed. Ok (deals deal.labels loaded.program seed evaluator))
+    (seed_other found.seed) (λ seed. tt)))
+
 request_other : (found : Found) (request : Request) → NoWords (outcome_for found request)
 request_other found (Solo solo) = solo_other found solo
 request_other found (Stats stats) = stats_other found stats
+request_other found (Deal deal) = deal_other found deal
 
 words_only : (outcome : Result Done Refusal) → NoWords outcome → outcome ≡ Err refusal.Words → ⊥
 words_only (Ok done) other e = cc
@@ -163,3 +183,37 @@ pub words_done : (words : List (List ℕ)) (before after : DeskTold)
     × (request_of words ≡ None → IsWordsOrMemory status.Ok)
 unfolding outcome_of
 words_done words before after works = (λ same. cc, λ nothing. rw nothing at works.1)
+
+-- ---- commands that write no file
+
+then_ok : {A B : Type 0} (r : Result A Refusal) (f : A → Result B Refusal) (y : B) → (r >>= f) ≡ Ok y → (x : A) × (f x ≡ Ok y)
+then_ok (Ok x) f y is = (x, is)
+then_ok (Err why) f y is = cc
+
+says_no_file : (text : List ℕ) (done : Done) → ◌≡◌ {A = Result Done Refusal} (Ok (says text)) (Ok done) → done.files ≡ []
+says_no_file text done is = ap (λ (r : Result Done Refusal). files_of r) (sym is)
+
+solo_writes_none : (found : Found) (solo : SoloRequest) (done : Done) → solo_outcome found solo ≡ Ok done → done.files ≡ []
+unfolding solo_outcome
+solo_writes_none found solo done is =
+    let loaded = then_ok (planned_of solo.limits found.source) _ done is in
+    let garbler = then_ok (numbers_of party.Garbler loaded.0 found.garbler) _ done loaded.1 in
+    let evaluator = then_ok (numbers_of party.Evaluator loaded.0 found.evaluator) _ done garbler.1 in
+    says_no_file _ done evaluator.1
+
+stats_writes_none : (found : Found) (stats : StatsRequest) (done : Done) → stats_outcome found stats ≡ Ok done → done.files ≡ []
+unfolding stats_outcome
+stats_writes_none found stats done is =
+    let loaded = then_ok (source_of found.source) _ done is in
+    let costs = then_ok (costs_of stats.limits loaded.0) _ done loaded.1 in
+    says_no_file _ done costs.1
+
+-- what is done by words that ask for no file has none
+pub writes_none_of : (found : Found) (words : List (List ℕ)) (done : Done) → WritesNoFile (request_of words) → outcome_of found words ≡ Ok done → done.files ≡ []
+unfolding outcome_of
+writes_none_of found words done none is = go (request_of words) none is where
+  go : (asked : Option Request) → WritesNoFile asked → (ok_or asked refusal.Words >>= outcome_for found) ≡ Ok done → done.files ≡ []
+  go None none is = cc
+  go (Some (Solo solo)) none is = solo_writes_none found solo done is
+  go (Some (Stats stats)) none is = stats_writes_none found stats done is
+  go (Some (Deal deal)) none is = absurd none

@@ -2,6 +2,7 @@
 use Rattle.std.specs.Prelude.{◌≡◌, ◌≢◌, ◌≤◌, ◌+◌, ℕ, List, [], ◌∷◌, ◌++◌, length, take, Bool, IsTrue, All, Option, Some, None, IsSomeAnd, Result, Ok, Err, IsOkAnd}
 use Rattle.mage_base.specs.Desk.{DeskTold, Files, files_with}
 use Rattle.mage_base.specs.Faults.{Rose}
+use Rattle.mage_words.specs.Words.{Request, Solo, Stats, Deal}
 use Rattle.mage_planner.specs.declared.refusal.Refusal.{Refusal}
 use Rattle.mage_planner.specs.declared.refusal.Refusal.TheVariants as refusal
 use Rattle.mage_planner.specs.declared.status.Status.{Status}
@@ -128,6 +129,13 @@ abbrev pub IsWordsOrMemory : Status → Type 0
 IsWordsOrMemory status.Words = Unit {0}
 IsWordsOrMemory status.Memory = Unit {0}
 IsWordsOrMemory other = ⊥
+
+-- the words don't ask for a command that writes files
+abbrev pub WritesNoFile : Option Request → Type 0
+WritesNoFile None = Unit {0}
+WritesNoFile (Some (Solo solo)) = Unit {0}
+WritesNoFile (Some (Stats stats)) = Unit {0}
+WritesNoFile (Some (Deal deal)) = ⊥
 
 -- ---- when the desk doesn't fail
 

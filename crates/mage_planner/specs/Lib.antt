@@ -2,6 +2,8 @@ pub mod Codes
 pub mod Lines
 pub mod SummaryText
 pub mod Outcome
+pub mod Work
 pub mod Steps
 pub mod Warned
 pub mod Answer
+pub mod Writing

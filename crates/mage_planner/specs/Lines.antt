@@ -20,6 +20,7 @@ status_of (refusal.Language kind line column) = status.Language
 status_of (refusal.Limits worker tight) = status.Limits
 status_of (refusal.InputLine party line) = status.InputText
 status_of (refusal.InputTooLong party) = status.InputText
+status_of refusal.InputSeed = status.InputText
 status_of refusal.Desk = status.Desk
 status_of refusal.Memory = status.Memory
 
@@ -62,6 +63,7 @@ line_parts (refusal.Limits worker tight) =
 line_parts (refusal.InputLine party line) =
     codes "mage: input " ∷ party_name party ∷ codes " line " ∷ decimal line ∷ codes "\n" ∷ []
 line_parts (refusal.InputTooLong party) = codes "mage: input " ∷ party_name party ∷ codes " too long\n" ∷ []
+line_parts refusal.InputSeed = codes "mage: input seed\n" ∷ []
 line_parts refusal.Desk = codes "mage: desk fault\n" ∷ []
 line_parts refusal.Memory = codes "mage: no memory\n" ∷ []
 

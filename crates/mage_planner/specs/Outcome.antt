@@ -1,5 +1,7 @@
 -- What a command comes to, in the order of work.
-use Rattle.std.specs.Prelude.{ℕ, List, [], length, Option, Some, None, Result, Ok, Err, ok_or, nat_lt, if◌then◌else◌}
+use Rattle.std.specs.Prelude.{ℕ, zero, suc, ◌+◌, ◌==◌, List, [], ◌∷◌, length, Option, Some, None, Result, Ok, Err, ok_or, nat_lt, codes, if◌then◌else◌}
+use Rattle.std.specs.List.{concat}
+use Rattle.std.specs.Fmt.{decimal}
 use Rattle.mage_base.specs.Desk.{Files}
 use Rattle.mage_chains.specs.Chains.{◌>>=◌}
 use Rattle.mage_instr.specs.declared.replaced.Limits.{Limits}
@@ -11,7 +13,11 @@ use Rattle.mage_instr.specs.declared.party.Party.{Party}
 use Rattle.mage_instr.specs.declared.party.Party.TheVariants as party
 use Rattle.mage_meaning.specs.Given.{Given}
 use Rattle.mage_meaning.specs.Value.{value_of}
+use Rattle.mage_instr.specs.declared.instr.Program.{Program}
 use Rattle.mage_instr.specs.Inputs.{input_widths_of}
+use Rattle.mage_linked.specs.Workers.{list_at}
+use Rattle.mage_streams.specs.Garbling.{bytes_of}
+use Rattle.mage_streams.specs.Streams.{dealt_labels}
 use Rattle.mage_texts.specs.InputText.{inputs_of}
 use Rattle.mage_texts.specs.OutputText.{text_of}
 use Rattle.mage_pipe.specs.declared.loaded.Loaded.{Loaded}
@@ -23,7 +29,7 @@ use Rattle.mage_pipe.specs.Summary.{stats_of}
 use Rattle.mage_planner.specs.declared.refusal.Refusal.{Refusal}
 use Rattle.mage_planner.specs.declared.refusal.Refusal.TheVariants as refusal
 use Rattle.mage_planner.specs.SummaryText.{summary_text}
-use Rattle.mage_words.specs.Words.{Request, Solo, Stats, SoloRequest, StatsRequest, request_of}
+use Rattle.mage_words.specs.Words.{Request, Solo, Stats, Deal, SoloRequest, StatsRequest, DealRequest, request_of}
 
 -- a file as a fetch with a limit finds it
 pub data File : Type 0 where
@@ -48,27 +54,40 @@ pub record Found : Type 0 where
   pub source : File
   pub garbler : File
   pub evaluator : File
+  pub seed : File
+
+-- the bytes of a seed
+abbrev pub SEED_BYTES : ℕ
+SEED_BYTES = 32
 
 -- the most bytes of an input text
 abbrev pub INPUT_LIMIT : ℕ
 INPUT_LIMIT = 67108864
 
--- A source is no longer than a text may be. `stats` reads no input text.
+-- A source is no longer than a text may be. `stats` reads no input text, and `deal` none of the garbler.
 abbrev pub found_in : Files → Request → Found
 found_in files (Solo solo) = record {
   source = file_at files solo.source MOST_BYTES;
   garbler = file_named files solo.garbler INPUT_LIMIT;
   evaluator = file_named files solo.evaluator INPUT_LIMIT;
+  seed = Absent;
 }
 found_in files (Stats stats) = record {
   source = file_at files stats.source MOST_BYTES;
   garbler = Absent;
   evaluator = Absent;
+  seed = Absent;
+}
+found_in files (Deal deal) = record {
+  source = file_at files deal.source MOST_BYTES;
+  garbler = Absent;
+  evaluator = file_named files deal.evaluator INPUT_LIMIT;
+  seed = file_at files deal.seed SEED_BYTES;
 }
 
 -- where the words ask for nothing, no file is read
 abbrev pub found_for : Files → Option Request → Found
-found_for files None = record { source = Absent; garbler = Absent; evaluator = Absent }
+found_for files None = record { source = Absent; garbler = Absent; evaluator = Absent; seed = Absent }
 found_for files (Some request) = found_in files request
 
 -- one file that a command writes
@@ -167,9 +186,52 @@ stats_outcome found stats = do
   costs ← costs_of stats.limits loaded
   Ok (says (summary_text costs))
 
+-- a seed has just 32 bytes
+abbrev pub if_seed : List ℕ → Result (List ℕ) Refusal
+if_seed bytes = if length bytes == SEED_BYTES then Ok bytes else Err refusal.InputSeed
+
+unfoldable pub seed_of : File → Result (List ℕ) Refusal
+seed_of file = do
+  bytes ← bytes_or refusal.InputSeed file
+  if_seed bytes
+
+-- The labels that are dealt to a worker's evaluator. The values of the garbler don't matter to them (mage_deal::law_of_dealing).
+abbrev pub label_bytes : Program → (seed : List ℕ) → (evaluator : List (List ℕ)) → (worker : ℕ) → List ℕ
+label_bytes program seed evaluator worker =
+    bytes_of (dealt_labels program seed (λ w. []) (list_at evaluator) worker)
+
+-- The label file of a worker: its name is the stem, a dot and the worker's number.
+abbrev pub label_file : (stem : List ℕ) → Program → (seed : List ℕ) → (evaluator : List (List ℕ)) → (worker : ℕ) → NewFile
+label_file stem program seed evaluator worker = record {
+  name = concat (stem ∷ codes "." ∷ decimal worker ∷ []);
+  bytes = label_bytes program seed evaluator worker;
+}
+
+-- the label files of so many workers, from this one on
+abbrev pub label_files : (stem : List ℕ) → Program → (seed : List ℕ) → (evaluator : List (List ℕ)) → (first count : ℕ) → List NewFile
+label_files stem program seed evaluator first zero = []
+label_files stem program seed evaluator first (suc count) =
+    label_file stem program seed evaluator first ∷ label_files stem program seed evaluator (first + 1) count
+
+-- it says nothing, and writes the label file of each worker
+abbrev pub deals : (stem : List ℕ) → Program → (seed : List ℕ) → (evaluator : List (List ℕ)) → Done
+deals stem program seed evaluator = record {
+  said = [];
+  files = label_files stem program seed evaluator 0 (length program.workers);
+}
+
+-- what `deal` does: it writes the label files of the evaluator's numbers
+unfoldable pub deal_outcome : Found → DealRequest → Result Done Refusal
+deal_outcome found deal = do
+  loaded ← source_of found.source
+  evaluator ← numbers_of party.Evaluator loaded found.evaluator
+  seed ← seed_of found.seed
+  Ok (deals deal.labels loaded.program seed evaluator)
+
 abbrev pub outcome_for : Found → Request → Result Done Refusal
 outcome_for found (Solo solo) = solo_outcome found solo
 outcome_for found (Stats stats) = stats_outcome found stats
+outcome_for found (Deal deal) = deal_outcome found deal
 
 -- what a command does, or the first refusal in the order of work; an absent file stops it too
 unfoldable pub outcome_of : Found → List (List ℕ) → Result Done Refusal

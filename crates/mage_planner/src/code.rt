@@ -23,7 +23,9 @@ impl Refusal {
             Refusal::Words => Status::Words,
             Refusal::Language { .. } => Status::Language,
             Refusal::Limits { .. } => Status::Limits,
-            Refusal::InputLine { .. } | Refusal::InputTooLong { .. } => Status::InputText,
+            Refusal::InputLine { .. } | Refusal::InputTooLong { .. } | Refusal::InputSeed => {
+                Status::InputText
+            }
             Refusal::Desk => Status::Desk,
             Refusal::Memory => Status::Memory,
         }

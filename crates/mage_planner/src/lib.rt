@@ -3,8 +3,12 @@
 
 mod code;
 mod command;
+mod deal;
+mod files;
 mod inputs;
+mod labels;
 mod line;
+mod perform;
 mod refusal;
 mod solo;
 mod sources;
@@ -12,6 +16,7 @@ mod stats;
 mod status;
 mod top;
 mod warning;
+mod work;
 
 pub use mage_texts::{InputFault, read_inputs};
 pub use refusal::Refusal;

@@ -124,6 +124,7 @@ pub fn line_of(alloc: Global, refusal: Refusal) -> Result<CowStr<'static, Global
         Refusal::Words => return Ok(CowStr::Borrowed("mage: bad words\n")),
         Refusal::Desk => return Ok(CowStr::Borrowed("mage: desk fault\n")),
         Refusal::Memory => return Ok(CowStr::Borrowed("mage: no memory\n")),
+        Refusal::InputSeed => return Ok(CowStr::Borrowed("mage: input seed\n")),
         Refusal::InputTooLong { party } => return Ok(CowStr::Borrowed(too_long_line(party))),
         Refusal::Language { kind, line, column } => language_line(alloc, kind, line, column)?,
         Refusal::Limits { worker, tight } => tight_line(alloc, worker, tight)?,

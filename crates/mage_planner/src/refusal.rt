@@ -28,6 +28,8 @@ pub enum Refusal {
     InputTooLong {
         party: Party,
     },
+    /// The file of the seed hasn't just 32 bytes.
+    InputSeed,
     /// The desk failed: a file that isn't there, or can't be read, or an answer that can't be said.
     Desk,
     /// There was no memory.

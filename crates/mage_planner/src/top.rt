@@ -8,15 +8,16 @@ ghost use Rattle.mage_planner.specs.declared.refusal.Refusal.TheVariants as refu
 ghost use Rattle.mage_planner.specs.Lines.{line_of};
 ghost use Rattle.mage_planner.specs.Outcome.{Found, outcome_of, outcome_in};
 ghost use Rattle.mage_planner.specs.Steps.{StepCounted, IsNoDeskFault};
-ghost use Rattle.mage_planner.specs.Answer.{Answers, Works, AnswerCounted, refusal_of, IsOkOrMemory, IsWordsOrMemory, HasRoom};
+ghost use Rattle.mage_planner.specs.Answer.{Answers, Works, WritesNoFile, AnswerCounted, refusal_of, IsOkOrMemory, IsWordsOrMemory, HasRoom};
 
 use crate::command::work;
+use crate::perform::perform;
 use crate::warning::refuse;
 use crate::{Refusal, Status};
-use mage_base::{Desk, Failed};
+use mage_base::Desk;
 use std::alloc::Global;
 
-// Does the work, and says in one call what it comes to.
+// Does the work, and then what it comes to.
 fn run<D: Desk>(alloc: Global, words: &[String], desk: &mut D) -> Result<(), Refusal>
     ensures told { IfSome (D.tells desk.old).files (λ files. Works (D.tells desk.old).steady
         (outcome_in files (bytes_of_words words.now)) result (D.tells desk.old)
@@ -28,32 +29,34 @@ fn run<D: Desk>(alloc: Global, words: &[String], desk: &mut D) -> Result<(), Ref
         IsNoDeskFault (outcome_in files (bytes_of_words words.now))
         → HasRoom (D.tells desk.old) (outcome_in files (bytes_of_words words.now))
         → IsNoDeskFault result) }
+    ensures files { WritesNoFile (request_of (bytes_of_words words.now))
+        → (D.tells desk.new).files ≡ (D.tells desk.old).files }
     ensures rest { D.tells desk.new ≡ record (D.tells desk.old) {
+      files = (D.tells desk.new).files;
       said = (D.tells desk.new).said;
       faults = (D.tells desk.new).faults;
       room = (D.tells desk.new).room;
     } }
 {
-    let text = work(alloc, words, desk)?;
-    match desk.say(&text) {
-        Ok(()) => Ok(()),
-        Err(Failed) => Err(Refusal::Desk),
-    }
+    let work = work(alloc, words, desk)?;
+    perform(alloc, desk, &work)
 }
 
 /// Does what `mage_plan` does with these words (`mage_words::read_words`). `solo` reads the source and the input
 /// texts that they name from the desk, tests that a plan within the limits exists, evaluates the source in plain on
-/// one thread, and says its outputs. `stats` says what a plan for the source costs. Neither writes a file.
+/// one thread, and says its outputs. `stats` says what a plan for the source costs. `deal` reads the source, the evaluator's
+/// input text and a seed, and writes the labels that are dealt to each worker's evaluator, a file for each.
 ///
 /// The work goes in this order, and the first thing that is wrong decides the status: words (`Words`), source fetched
-/// (`Desk`), language (`Language`), limits (`Limits`), and for `solo` garbler text fetched and read (`Desk`,
-/// `InputText`), evaluator text likewise, run; then what is to be said is said (`Desk`). `Memory` may come at any step.
+/// (`Desk`), language (`Language`), limits (`Limits`; `deal` makes no plan), and for `solo` garbler text fetched and read
+/// (`Desk`, `InputText`), for `solo` and `deal` evaluator text likewise, for `deal` the seed likewise; run; then files are
+/// written and what is to be said is said (`Desk`). `Memory` may come at any step.
 ///
 /// With any status but `Ok` one line is warned that says what is wrong and where. A warning that fails changes no
 /// status.
 pub fn planner<D: Desk>(alloc: Global, words: &[String], desk: &mut D) -> Status
     // Where the desk tells its files, they and the words decide; with Ok, just the outputs or the summary is said, and
-    // nothing is warned. Every file stays but those that the command writes, of which there are none yet.
+    // nothing is warned, and just the files of the command are written. With any other answer every other file stays.
     ensures told { IfSome (D.tells desk.old).files (λ files. Answers (D.tells desk.old).steady
         (outcome_in files (bytes_of_words words.now)) result (D.tells desk.old)
         (D.tells desk.new)) }
@@ -89,8 +92,13 @@ pub fn planner<D: Desk>(alloc: Global, words: &[String], desk: &mut D) -> Status
         → length (line_of refusals.Memory) ≤ (D.tells desk.old).warn_room
         → ((D.tells desk.new).faults ≡ (D.tells desk.old).faults) × (result ≢ Status.Desk)) }
 
-    // All else that the desk tells stays: its files, its stores, and whether it is steady.
+    // A command that writes no file leaves all files.
+    ensures files { WritesNoFile (request_of (bytes_of_words words.now))
+        → (D.tells desk.new).files ≡ (D.tells desk.old).files }
+
+    // All else that the desk tells stays: its stores, and whether it is steady.
     ensures rest { D.tells desk.new ≡ record (D.tells desk.old) {
+      files = (D.tells desk.new).files;
       said = (D.tells desk.new).said;
       warned = (D.tells desk.new).warned;
       faults = (D.tells desk.new).faults;

@@ -1,9 +1,9 @@
 use Rattle.std.proofs.Common.{ap}
 use Rattle.mage_words.specs.Words.{bytes_of_words}
-use Rattle.mage_planner.specs.Outcome.{outcome_in}
+use Rattle.mage_planner.specs.Outcome.{outcome_in, outcome_of}
 use Rattle.mage_parser.proofs.ReadingLaw.{reading_is_the_grammar}
 use Rattle.mage_pipe.proofs.LeastReads.{reads_are_least}
-use Rattle.mage_planner.proofs.AnswerLemmas.{answered_files, steady_files}
+use Rattle.mage_planner.proofs.AnswerLemmas.{answered, answered_files, steady_files}
 use Rattle.mage_planner.proofs.WordsLemmas.{words_done, words_refused}
 use Rattle.mage_planner.proofs.top.planner.Goals as goal
 
@@ -14,6 +14,14 @@ pub returns-in-Err-clause-words : goal.returns-in-Err-clause-words
 returns-in-Err-clause-words g c =
     words_refused c.in-Err.refusal c.refuse.result c.status.result c.status.ensures c.refuse.ensures.same
     (bytes_of_words c.args.words.now) _ _ c.in-Err.ensures.some
+
+pub returns-in-Err-clause-some : goal.returns-in-Err-clause-some
+returns-in-Err-clause-some g c =
+    let some = c.in-Err.ensures.some in (
+      some.0,
+      answered _ c.in-Err.refusal c.refuse.result c.status.result c.status.ensures c.refuse.ensures.same _ _ _
+          c.refuse.ensures.warns (outcome_of some.0 (bytes_of_words c.args.words.now)) some.1,
+    )
 
 pub returns-in-Err-clause-told : goal.returns-in-Err-clause-told
 returns-in-Err-clause-told g c =
