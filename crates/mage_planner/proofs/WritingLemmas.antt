@@ -1,26 +1,24 @@
 -- Files that are written, one after the other.
-use Rattle.std.proofs.Common.{◌≡◌, ◌≢◌, ◌≤◌, ◌<◌, ℕ, zero, suc, ◌+◌, ◌-◌, min, List, [], ◌∷◌, ◌++◌, length, take, Bool, cond, true, false, ◌&&◌, IsTrue, Option, Some, None, unwrap_or, slice_get, Vec, Result, Ok, Err, is_ok, refl, sym, ap, ap₂, subst, ◌∙◌, append_assoc, arith}
+use Rattle.std.proofs.Common.{◌≡◌, ◌≢◌, ◌≤◌, ◌<◌, ℕ, zero, suc, ◌+◌, List, [], ◌∷◌, ◌++◌, length, take, Bool, cond, true, false, Option, Some, None, unwrap_or, slice_get, Vec, Result, Ok, Err, refl, sym, ap, ap₂, subst, ◌∙◌, append_assoc, arith}
 use Rattle.std.proofs.Math.Path.{fun_ext}
 use Rattle.std.specs.List.{All, slice_index_or}
-use Rattle.std.specs.Option.{IfSome, IsSomeAnd}
+use Rattle.std.specs.Option.{IfSome}
 use Rattle.std.specs.declared.alloc.Global.{Global}
 use Rattle.std.specs.Str.{bytes_eq}
 use Rattle.std.proofs.lemmas.Slice.Eq.{bytes_eq-Decides}
 use Rattle.std.proofs.lemmas.List.{append-nil}
-use Rattle.mage_base.specs.Desk.{DeskTold, Files, HandsSink, ClosesOut, files_with, with_file}
-use Rattle.mage_base.specs.Faults.{Counted, Rose, count_after, next_count, top}
-use Rattle.mage_base.specs.Sink.{SinkTold, Puts, Grown}
-use Rattle.mage_base.specs.declared.failure.Failed.{Failed}
+use Rattle.mage_base.specs.Desk.{DeskTold, Files, HandsSink, files_with, with_file}
+use Rattle.mage_base.specs.Sink.{SinkTold}
 use Rattle.mage_planner.specs.declared.refusal.Refusal.{Refusal}
 use Rattle.mage_planner.specs.declared.refusal.Refusal.TheVariants as refusal
 use Rattle.mage_planner.specs.declared.work.Dealing.{Dealing}
-use Rattle.mage_planner.specs.Outcome.{Done, NewFile, label_files}
+use Rattle.mage_planner.specs.Outcome.{NewFile, label_files}
 use Rattle.mage_planner.specs.Work.{file_by}
-use Rattle.mage_planner.specs.Answer.{Does, Fails, Stops, OthersStay, with_files}
+use Rattle.mage_planner.specs.Answer.{OthersStay, with_files}
 use Rattle.mage_linked.specs.Workers.{list_at}
 use Rattle.mage_texts.specs.Lists.{lists_of}
 use Rattle.mage_planner.specs.Warned.{Grows}
-use Rattle.mage_planner.specs.Writing.{Opens, Fills, Writes, Breaks, Ceases, Performs}
+use Rattle.mage_planner.specs.Writing.{Opens, Fills, Writes, Performs}
 
 -- ---- files by name
 

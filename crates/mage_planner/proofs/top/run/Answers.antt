@@ -1,9 +1,7 @@
-use Rattle.std.proofs.Common.{ap, sym, ◌∙◌, subst}
+use Rattle.std.proofs.Common.{subst}
 use Rattle.mage_base.specs.Desk.{DeskTold}
 use Rattle.mage_words.specs.Words.{bytes_of_words}
 use Rattle.mage_planner.specs.Outcome.{outcome_in, outcome_of}
-use Rattle.mage_planner.specs.Answer.{Works}
-use Rattle.mage_planner.specs.Steps.{StepCounted}
 use Rattle.mage_planner.specs.Work.{done_of}
 use Rattle.mage_planner.specs.Writing.{Performs}
 use Rattle.mage_planner.proofs.PerformLemmas.{changes, counts, leaves_files, steady_told, unread, works, works_told}
