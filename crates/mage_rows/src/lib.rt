@@ -5,6 +5,8 @@
 #[cfg(test)]
 mod cases;
 #[cfg(test)]
+mod deal;
+#[cfg(test)]
 mod desk;
 #[cfg(test)]
 mod language;
