@@ -1,0 +1,10 @@
+pub mod Own
+pub mod Removing
+pub mod Jobs
+pub mod Turning
+pub mod Together
+pub mod Pages
+pub mod Lists
+pub mod Stores
+pub mod Directives
+pub mod Ranges
