@@ -17,7 +17,7 @@ use Rattle.mage_linked.specs.declared.emitted.Emitted.{Emitted}
 use Rattle.mage_tree.specs.declared.tree.Stmt.{Stmt}
 use Rattle.mage_unroll.specs.Unrolled.{workers_in, workers_of, emitted_by, unrolled_of}
 
-length-below : (n : ℕ) → length (below n) ≡ n
+pub length-below : (n : ℕ) → length (below n) ≡ n
 length-below zero = refl
 length-below (suc n) = let more = length-append (below n) (n ∷ []) in let less = length-below n in omega (arith, more, less)
 

@@ -6,3 +6,4 @@ pub mod LeastReads
 mod Walking
 mod Joining
 mod PlanningLemmas
+mod Accepted

@@ -24,7 +24,7 @@ use Rattle.mage_pipe.specs.declared.fault.PlanFault.{PlanFault}
 use Rattle.mage_pipe.specs.declared.loaded.Loaded.{Loaded}
 use Rattle.mage_pipe.specs.Answer.{Gives}
 use Rattle.mage_pipe.specs.Loading.{loaded_of}
-use Rattle.mage_pipe.specs.MemoryProgram.{directives_for, fitting_directives_of, worker_directives_of, parts_from, memory_program_of, IsPlanOfText}
+use Rattle.mage_pipe.specs.MemoryProgram.{directives_for, fitting_directives_of, worker_directives_of, parts_from, memory_program_of, IsPassed, IsPlanOfText}
 use Rattle.mage_pipe.specs.Summary.{trace_for, list_for, unless_tight, if_it_fits, tight_at, or_language}
 
 none_tight : {T : Type 0} (o p : Option Tight) (x y : T) → unless_tight (option_or o p) x ≡ Ok y → (o ≡ None) × (p ≡ None) × (x ≡ y)
@@ -40,7 +40,7 @@ is_given : {T : Type 0} (worker : ℕ) (r : Result T Tight) (x : T) → tight_at
 is_given {T = T} worker (Ok y) x h = let same : y ≡ x = cc in ap (λ (z : T). Ok z) same
 is_given worker (Err t) x h = absurd (cc)
 
-is_loaded : {T : Type 0} (r : Result T LangFault) (x : T) → or_language r ≡ Ok x → r ≡ Ok x
+pub is_loaded : {T : Type 0} (r : Result T LangFault) (x : T) → or_language r ≡ Ok x → r ≡ Ok x
 is_loaded {T = T} (Ok y) x h = let same : y ≡ x = cc in ap (λ (z : T). Ok z) same
 is_loaded (Err fault) x h = absurd (cc)
 
@@ -73,17 +73,24 @@ all_can_be limits worker (instrs ∷ workers) parts sound have h =
     let others = all_can_be limits (worker + 1) workers rest.0 (All-tail IsSound instrs workers sound) (All-tail HaveArguments instrs workers have) rest.1 in
     ((one.0, others.0), sym (ok_same (first.0 ∷ rest.0) parts rest.2) ∙ same_list first.0 (passed limits instrs) rest.0 (map (passed limits) workers) one.1 others.1)
 
-is_plan : (limits : Limits) (program : Program) (plan : MemProgram) → All IsSound program.workers → All HaveArguments program.workers → memory_program_of limits program.workers ≡ Ok plan → IsPlanOf limits program plan
+is_passed : (limits : Limits) (program : Program) (plan : MemProgram) → All IsSound program.workers → All HaveArguments program.workers → memory_program_of limits program.workers ≡ Ok plan → IsPassed limits program plan
 unfolding memory_program_of
-is_plan limits program plan sound have h =
+is_passed limits program plan sound have h =
     let parts = then_ok (parts_from limits 0 program.workers) _ plan h in
     let all = all_can_be limits 0 program.workers parts.0 sound have parts.1 in
-    let same : program_of limits (map (passed limits) program.workers) ≡ plan = ap (program_of limits) (sym all.1) ∙ ok_same (program_of limits parts.0) plan parts.2 in
-    subst (λ (x : MemProgram). IsPlanOf limits program x) same (passes_plan limits program all.0)
+    (all.0, sym (ok_same (program_of limits parts.0) plan parts.2) ∙ ap (program_of limits) all.1)
+
+is_plan : (limits : Limits) (program : Program) (plan : MemProgram) → IsPassed limits program plan → IsPlanOf limits program plan
+is_plan limits program plan is = subst (λ (x : MemProgram). IsPlanOf limits program x) (sym is.1) (passes_plan limits program is.0)
+
+pub passed_answer : (limits : Limits) (program : Program) (answer : Result MemProgram PlanFault) → All IsSound program.workers
+    → Gives (λ plan. plan) answer (memory_program_of limits program.workers) → IfOk answer (λ plan. All HaveArguments program.workers) → IfOk answer (IsPassed limits program)
+passed_answer limits program (Ok plan) sound gives have = is_passed limits program plan sound have gives
+passed_answer limits program (Err fault) sound gives have = tt
 
 pub plan_answer : (limits : Limits) (program : Program) (answer : Result MemProgram PlanFault) → All IsSound program.workers
     → Gives (λ plan. plan) answer (memory_program_of limits program.workers) → IfOk answer (λ plan. All HaveArguments program.workers) → IfOk answer (IsPlanOf limits program)
-plan_answer limits program (Ok plan) sound gives have = is_plan limits program plan sound have gives
+plan_answer limits program (Ok plan) sound gives have = is_plan limits program plan (is_passed limits program plan sound have gives)
 plan_answer limits program (Err fault) sound gives have = tt
 
 pub text_answer : (limits : Limits) (text : List ℕ) (loaded : Loaded) (answer : Result MemProgram PlanFault) → or_language (loaded_of text) ≡ Ok loaded

@@ -1,7 +1,8 @@
 -- The memory program that the passes make of a source, or why there is none.
-use Rattle.std.specs.Prelude.{◌≡◌, ◌+◌, ℕ, List, [], ◌∷◌, ◌++◌, Result, Ok}
+use Rattle.std.specs.Prelude.{◌≡◌, ◌+◌, ℕ, List, [], ◌∷◌, ◌++◌, map, Result, Ok}
 use Rattle.mage_chains.specs.Chains.{◌>>=◌}
 use Rattle.mage_instr.specs.declared.instr.Instr.{Instr}
+use Rattle.mage_instr.specs.declared.instr.Program.{Program}
 use Rattle.mage_instr.specs.declared.directive.Directive.{Directive}
 use Rattle.mage_instr.specs.declared.directive.MemProgram.{MemProgram}
 use Rattle.mage_instr.specs.declared.replaced.Limits.{Limits}
@@ -9,7 +10,7 @@ use Rattle.mage_instr.specs.declared.replaced.Tight.{Tight}
 use Rattle.mage_place.specs.TooWide.{page_tight}
 use Rattle.mage_sched.specs.Homes.{Homed}
 use Rattle.mage_schedulable.specs.Planning.{directives_of, program_of}
-use Rattle.mage_schedulable.specs.PlanOf.{IsPlanOf}
+use Rattle.mage_schedulable.specs.PlanOf.{IsPlanOf, AllCanBePlanned, passed}
 use Rattle.mage_pipe.specs.declared.fault.PlanFault.{PlanFault}
 use Rattle.mage_pipe.specs.declared.loaded.Loaded.{Loaded}
 use Rattle.mage_pipe.specs.Loading.{loaded_of}
@@ -58,6 +59,12 @@ unfoldable pub plan_of : Limits → List ℕ → Result MemProgram PlanFault
 plan_of limits text = do
   loaded ← or_language (loaded_of text)
   memory_program_of limits loaded.program.workers
+
+-- a memory program is what the passes make of a program, for which no limit is too low
+abbrev pub IsPassed : Limits → Program → MemProgram → Type 0
+IsPassed limits program plan =
+    AllCanBePlanned limits program.workers
+    × (plan ≡ program_of limits (map (passed limits) program.workers))
 
 -- A memory program is a plan of a text within these limits: the text is a source without a fault, and it is a plan of the
 -- program that the source unrolls to.

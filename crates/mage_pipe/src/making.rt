@@ -4,10 +4,11 @@ ghost use Rattle.std.specs.List.{All};
 ghost use Rattle.mage_instr.specs.Limits.{AreInRange};
 ghost use Rattle.mage_instr.specs.Opcodes.{most_workers};
 ghost use Rattle.mage_instr.specs.Sound.{IsSound};
+ghost use Rattle.mage_accepted.specs.Accepting.{IsAccepted};
 ghost use Rattle.mage_residency.specs.Carried.{HaveArguments};
 ghost use Rattle.mage_schedulable.specs.PlanOf.{IsPlanOf};
 ghost use Rattle.mage_pipe.specs.Answer.{Gives};
-ghost use Rattle.mage_pipe.specs.MemoryProgram.{homed_with, worker_directives_of, memory_program_of, plan_of, IsPlanOfText};
+ghost use Rattle.mage_pipe.specs.MemoryProgram.{homed_with, worker_directives_of, memory_program_of, plan_of, IsPassed, IsPlanOfText};
 ghost use Rattle.mage_pipe.specs.Summary.{tight_at};
 
 use crate::PlanFault;
@@ -27,7 +28,8 @@ use std::alloc::Global;
 /// What it answers is a plan of the text, by a definition that knows no pass: it carries the program by the walk of
 /// `mage_carry`; each instruction finds its values at the places of the rule, in frames that have their pages; each page comes in
 /// new once; no plan of residency reads fewer pages; each read is issued in the gap of the formula; and the store pages, and
-/// their number, are the homes of the pages that are transferred.
+/// their number, are the homes of the pages that are transferred. And the verifier accepts it: each of its fields is in its
+/// range, and it has no fault.
 ///
 /// `Lang` comes with the first fault of the source, as `load` finds it. `Tight` comes for the lowest worker to whom a limit is too
 /// low, and first of all where a value is wider than a page, else for the frames, else for the buffer, with the first such
@@ -39,6 +41,7 @@ pub fn plan(alloc: Global, text: &[u8], limits: Limits) -> Result<MemProgram, Pl
     requires limits { AreInRange limits }
     ensures plan { Gives (λ plan. plan) result (plan_of limits text.now) }
     ensures is_plan { IfOk result (IsPlanOfText limits text.now) }
+    ensures accepted { IfOk result IsAccepted }
 {
     let loaded = loaded(alloc, text)?;
     memory_program(alloc, &loaded.program, limits)
@@ -57,6 +60,7 @@ pub fn memory_program(
     requires limits { AreInRange limits }
     ensures plan { Gives (λ plan. plan) result (memory_program_of limits program.now.workers) }
     ensures is_plan { IfOk result (IsPlanOf limits program.now) }
+    ensures passed { IfOk result (IsPassed limits program.now) }
 {
     parts_of(alloc, program.workers.as_slice(), limits)
 }
