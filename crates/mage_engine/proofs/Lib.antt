@@ -1,0 +1,12 @@
+mod Pages
+mod Slots
+mod Views
+mod Advancing
+mod Moving
+mod Issuing
+mod Finishing
+mod Opening
+mod Using
+mod Doing
+mod Passing
+pub mod Staying

@@ -1,0 +1,12 @@
+//! The machine: it goes through one worker's directives, over a port of pages and links to other workers.
+#![tactic(auto)]
+
+mod frames;
+mod instructions;
+mod machine;
+mod room;
+mod transfers;
+mod turn;
+
+pub use machine::Machine;
+pub use turn::{Kind, Turn, Why};
