@@ -48,7 +48,7 @@ module _ {W : Type 0} (rules : Rules W) (wb : ℕ) (finished : Bool) (old : Seen
   freshened new is link =
       moved_so rules old (entry.Fresh frame page) at wb finished stands refl new old.driver old.port clean kind.Do is refl
       (same_driver rules old (entry.Fresh frame page) at wb finished stands refl) refl link refl
-      (λ told bank same. (put bank frame (cleared rules old.part.limits.page), fresh_holds bank same, (refl, refl)))
+      (λ told bank same. (put bank frame (cleared rules old.part.limits.page), fresh_holds bank same, (refl, refl, refl)))
 
   pub stands_fresh : (new : Seen rules.State) → new ≡ record old { place = old.place + 1; bank = clean } → Stands wb finished old.fault new
   stands_fresh new is =
@@ -77,6 +77,7 @@ module _ {W : Type 0} (rules : Rules W) (wb : ℕ) (old : Seen rules.State) (sou
       (sym (ap is_finished runs_still)) (
         ap₂ (λ (s : rules.State) (b : Bool). record (worker_with old bank) { engine = record (engine_with old bank) { driver = s; is_finished = b } })
             (answered.state told) (ap is_finished ended),
+        refl,
         refl,
       ))
 
@@ -165,6 +166,7 @@ module _ {W : Type 0} (rules : Rules W) (wb : ℕ) (finished : Bool) (old : Seen
                   ap₂ (λ (s : rules.State) (b : Bool). record (worker_with old bank) {
                     engine = record (advanced (engine_with old bank)) { driver = s; is_finished = b; bank = filled };
                   }) (reached told ∙ sym (ap (λ (m : Made rules.State W (List W)). m.state) circuit)) (sym running_both),
+                  refl,
                   refl,
                 ),
           )

@@ -15,7 +15,7 @@ use Rattle.mage_driver.specs.Calls.{Call}
 use Rattle.mage_link.specs.Links.{LinkTold}
 use Rattle.mage_port.specs.declared.ready.Ready.{Ready}
 use Rattle.mage_port.specs.declared.ready.Ready.TheVariants as answer
-use Rattle.mage_port.specs.Port.{PortTold, SlotState, Idle, AskedRead, AskedWrite, Finishes, Brings, Saves, Waits, IsUnderWay, IsAsked, IsAskedRead, slot_state, after_read, after_write, with_transfer, has_transfers, is_idle, is_asked_write}
+use Rattle.mage_port.specs.Port.{PortTold, SlotState, Transfers, Idle, AskedRead, AskedWrite, Finishes, Brings, Saves, Waits, IsUnderWay, IsAsked, IsAskedRead, slot_state, after_read, after_write, with_transfer, has_transfers, is_idle, is_asked_write}
 use Rattle.mage_steps.specs.Engines.{Engine, advanced}
 use Rattle.mage_verify.specs.declared.slot.Slot.{Slot}
 use Rattle.mage_verify.specs.declared.slot.Slot.TheVariants as does
@@ -23,7 +23,7 @@ use Rattle.mage_verify.specs.Leaving.{is_left}
 use Rattle.mage_verify.specs.State.{writes}
 use Rattle.mage_engine.specs.Seen.{Seen, flight_of, engine_with, worker_with, HoldSame}
 use Rattle.mage_engine.specs.Ready.{IsAt, IsReady, Stands, state_at}
-use Rattle.mage_engine.specs.Steps.{IsMove, IsWait, Happens, finished_by}
+use Rattle.mage_engine.specs.Steps.{IsMove, IsWait, Happens, finished_by, answers_in, heard_in}
 use Rattle.mage_engine.specs.declared.turn.Kind.TheVariants as kind
 use Rattle.mage_engine.specs.declared.turn.Why.TheVariants as why
 use Rattle.mage_engine.proofs.Pages.{put_here}
@@ -49,6 +49,19 @@ now_held port page p t = go (p == page)
     go : (b : Bool) → (b || has_transfers (port.finished p)) ≡ true → has_transfers (cond b (port.finished p ++ t ∷ []) (port.finished p)) ≡ true
     go true h = some_more (port.finished p) t
     go false h = h
+
+-- a write that is finished is no answer
+wrote_last : (xs : List Transfer) (page : ℕ) (bytes : List ℕ) → answers_in (xs ++ Wrote page bytes ∷ []) ≡ answers_in xs
+wrote_last [] page bytes = refl
+wrote_last (Wrote p b ∷ xs) page bytes = wrote_last xs page bytes
+wrote_last (Answered p b ∷ xs) page bytes = ap (λ l. b ∷ l) (wrote_last xs page bytes)
+
+wrote_heard : (lists : Transfers) (page : ℕ) (bytes : List ℕ) → heard_in (with_transfer lists page (Wrote page bytes)) ≡ heard_in lists
+wrote_heard lists page bytes = fun_ext (λ p. go p (p == page))
+  where
+    go : (p : ℕ) (b : Bool) → answers_in (cond b (lists p ++ Wrote page bytes ∷ []) (lists p)) ≡ answers_in (lists p)
+    go p true = wrote_last (lists p) page bytes
+    go p false = refl
 
 pub put_same : {X : Type 0} (each : ℕ → X) (i : ℕ) → put each i (each i) ≡ each
 put_same each i = fun_ext (λ k. go k (nat_eq i k) refl)
@@ -205,7 +218,7 @@ module _ {W : Type 0} (rules : Rules W) (wb : ℕ) (finished : Bool) (old : Seen
             subst (λ (f : Option (net.Transfer (List ℕ))). Happens (writes_flying {L = Call rules.State W} {W = List ℕ} f slot (advanced (engine_with old bank)) (worker_with old bank)) old.part.worker
                 (record { finished = old.port.finished; link = link }) (record { finished = new.port.finished; link = link }) (worker_with new bank))
                 (sym (ap flight_of s.1))
-                (ap (λ f. record { engine = advanced (engine_with old bank); flights = f }) (flights_after old.port slot Idle within_out), refl),
+                (ap (λ f. record { engine = advanced (engine_with old bank); flights = f }) (flights_after old.port slot Idle within_out), refl, wrote_heard old.port.finished writes_page.0 writes_bytes.0),
           )
 
       pub finished_out : (new : Seen rules.State) →

@@ -17,7 +17,7 @@ use Rattle.mage_verify.specs.Leaving.{is_left, leaves_first, leaves_at}
 use Rattle.mage_verify.specs.Runs as verifier
 use Rattle.mage_engine.specs.Seen.{Seen, flight_of, flights_in, engine_with, worker_with}
 use Rattle.mage_engine.specs.Ready.{IsAt, Stands, state_at}
-use Rattle.mage_engine.specs.Steps.{IsMove, Happens}
+use Rattle.mage_engine.specs.Steps.{IsMove, Happens, heard_in}
 use Rattle.mage_engine.specs.declared.turn.Kind.TheVariants as kind
 use Rattle.mage_engine.proofs.Slots.{flights_after, does_after, idle_when, free_so}
 use Rattle.mage_engine.proofs.Advancing.{left_here, meets, ready, running, next_ready}
@@ -39,11 +39,11 @@ module _ {W : Type 0} (rules : Rules W) (wb : ℕ) (finished : Bool) (old : Seen
   -- what the worker does where its slot is idle
   asks_so : (flight : Option (Transfer (List ℕ))) (slot : ℕ) (transfer : Transfer (List ℕ)) (engine : Engine rules.State) (bank : ℕ → List ℕ)
       (link : LinkTold) (new : Seen rules.State) (filled : ℕ → List ℕ) → flight ≡ None →
-      worker_with new filled ≡ flies slot (Some transfer) engine (worker_with old bank) →
+      worker_with new filled ≡ flies slot (Some transfer) engine (worker_with old bank) → heard_in new.port.finished ≡ heard_in old.port.finished →
       Happens (asks_flying {L = Call rules.State W} {W = List ℕ} flight slot transfer engine (worker_with old bank)) old.part.worker
       (record { finished = old.port.finished; link = link }) (record { finished = new.port.finished; link = link }) (worker_with new filled)
-  asks_so None slot transfer engine bank link new filled e same = (same, refl)
-  asks_so (Some flight) slot transfer engine bank link new filled e same = absurd cc
+  asks_so None slot transfer engine bank link new filled e same heard = (same, refl, heard)
+  asks_so (Some flight) slot transfer engine bank link new filled e same heard = absurd cc
 
   -- ---- a read is asked for
 
@@ -65,7 +65,7 @@ module _ {W : Type 0} (rules : Rules W) (wb : ℕ) (finished : Bool) (old : Seen
           bank,
           λ frame left. same frame (ap (is_left frame) (left_here old.part.directives old.place (entry.IssueIn slot page) at.here) ∙ left),
           asks_so (flights_in old.port slot) slot (Reads page) (advanced (engine_with old bank)) bank link new bank (ap flight_of can.idle)
-              (ap (λ f. record { engine = engine_with new bank; flights = f }) (flights_after old.port slot (AskedRead page) can.within)),
+              (ap (λ f. record { engine = engine_with new bank; flights = f }) (flights_after old.port slot (AskedRead page) can.within)) refl,
         )
 
     pub issued_in : (new : Seen rules.State) →
@@ -122,7 +122,7 @@ module _ {W : Type 0} (rules : Rules W) (wb : ℕ) (finished : Bool) (old : Seen
           λ f left. same f (kept_before f left) ∙ others f left,
           asks_so (flights_in old.port slot) slot (Writes page (bank frame)) (advanced (engine_with old bank)) bank link new bank (ap flight_of can.idle)
               (ap (λ f. record { engine = engine_with new bank; flights = f }) (flights_after old.port slot (AskedWrite page (old.bank frame)) can.within
-              ∙ ap (λ bytes. put (flights_in old.port) slot (Some (Writes page bytes))) (sym (same frame own_before)))),
+              ∙ ap (λ bytes. put (flights_in old.port) slot (Some (Writes page bytes))) (sym (same frame own_before)))) refl,
         )
 
     pub issued_out : (new : Seen rules.State) (filled : ℕ → List ℕ) → KeepsOthers filled →

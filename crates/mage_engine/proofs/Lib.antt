@@ -10,3 +10,4 @@ mod Using
 mod Doing
 mod Passing
 pub mod Staying
+pub mod Along

@@ -132,6 +132,7 @@ module _ {W : Type 0} (rules : Rules W) (wb : ℕ) (finished : Bool) (old : Seen
                 sent ∙ ap (λ (bytes : List ℕ). after_send before old.part.worker job.imm (sent_form rules
                     (rules.unpack (take rules.wire_bytes (drop (((slice_index_or job.args 0 no_spot).offset + old.wire) * rules.wire_bytes) bytes)))))
                     (sym (first_same rules old job at bank same has)),
+                refl,
               ),
         )
 
@@ -178,5 +179,6 @@ module _ {W : Type 0} (rules : Rules W) (wb : ℕ) (finished : Bool) (old : Seen
                 ap (λ (e : Engine rules.State). record (worker_with old bank) { engine = e })
                     (past_so (is_last many_received) (record (engine_with old bank) { bank = with_wire bank bytes })),
                 came,
+                refl,
               ),
         )

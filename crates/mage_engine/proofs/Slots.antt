@@ -12,7 +12,7 @@ use Rattle.mage_verify.specs.State.{State, with_slot}
 use Rattle.mage_engine.specs.Seen.{flight_of, flights_in}
 use Rattle.mage_engine.specs.Ready.{does_of}
 
-same_test : (a b : ℕ) → nat_eq a b ≡ nat_eq b a
+pub same_test : (a b : ℕ) → nat_eq a b ≡ nat_eq b a
 same_test a b = go (nat_eq a b) (nat_eq b a) refl refl
   where
     go : (x y : Bool) → nat_eq a b ≡ x → nat_eq b a ≡ y → nat_eq a b ≡ nat_eq b a

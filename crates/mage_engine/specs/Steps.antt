@@ -1,6 +1,6 @@
 -- What a step of a machine does.
-use Rattle.std.specs.Prelude.{◌≡◌, ◌==◌, ℕ, suc, List, [], if◌then◌else◌, IsTrue, Option, None, Some, IfSome, Result, Ok, Err}
-use Rattle.mage_base.specs.Store.{Answered}
+use Rattle.std.specs.Prelude.{◌≡◌, ◌==◌, ℕ, suc, List, [], ◌∷◌, if◌then◌else◌, IsTrue, Option, None, Some, IfSome, Result, Ok, Err}
+use Rattle.mage_base.specs.Store.{Transfer, Answered, Wrote}
 use Rattle.mage_instr.specs.declared.directive.Directive.{Directive}
 use Rattle.mage_instr.specs.declared.directive.Directive.TheVariants as entry
 use Rattle.mage_instr.specs.declared.fault.MachineFault.{MachineFault}
@@ -9,15 +9,15 @@ use Rattle.mage_instr.specs.declared.op.Op.{Op}
 use Rattle.mage_instr.specs.declared.op.Op.TheVariants as op
 use Rattle.mage_network.specs.Workers.{Moves, Sends, Takes, Stops}
 use Rattle.mage_network.specs.Slots.{Acts}
-use Rattle.mage_network.specs.Answers.{Hearing, Does, Hears}
-use Rattle.mage_network.specs.Reading.{hears_in}
+use Rattle.mage_network.specs.Answers.{Hearing, Does, Hears, IsAlongAnswers}
+use Rattle.mage_network.specs.Reading.{Flying, hears_in}
 use Rattle.mage_driver.specs.declared.standing.Standing.{Standing}
 use Rattle.mage_driver.specs.declared.standing.Standing.TheVariants as standing
 use Rattle.mage_driver.specs.Rules.{Rules}
 use Rattle.mage_driver.specs.Calls.{Call, Fell}
 use Rattle.mage_link.specs.Links.{LinkTold, after_send, after_receive, after_wait}
 use Rattle.mage_port.specs.Port.{PortTold, Transfers, AskedRead, AskedWrite, slot_state, with_state, with_transfer, Brings, Saves, Fails, Spoils, IsUnderWay}
-use Rattle.mage_steps.specs.Engines.{Next, doing}
+use Rattle.mage_steps.specs.Engines.{Engine, Next, doing, opened}
 use Rattle.mage_engine.specs.declared.turn.Kind.{Kind}
 use Rattle.mage_engine.specs.declared.turn.Kind.TheVariants as kind
 use Rattle.mage_engine.specs.declared.turn.Turn.{Turn}
@@ -96,16 +96,28 @@ pub record Beside : Type 0 where
   pub finished : Transfers
   pub link : LinkTold
 
+-- the answers of these transfers, in order
+abbrev pub answers_in : List Transfer → List (List ℕ)
+answers_in [] = []
+answers_in (Wrote page bytes ∷ transfers) = answers_in transfers
+answers_in (Answered page bytes ∷ transfers) = bytes ∷ answers_in transfers
+
+-- the answers of each page
+abbrev pub heard_in : Transfers → (page : ℕ) → List (List ℕ)
+heard_in transfers page = answers_in (transfers page)
+
 -- What a worker that is answered so does in one step, after which it is the worker `next`: an act of its own takes no
 -- answer, and hands one wire over where it is a send or a take; what it hears is an answer that the port has as well.
 abbrev pub Happens : {S L : Type 0} → Hearing S L (List ℕ) (List ℕ) → (worker : ℕ) →
     (before after : Beside) → (next : S) → Type 0
 Happens (Does (Moves said after)) worker old new next =
-    (next ≡ after) × (new.link ≡ old.link)
+    (next ≡ after) × (new.link ≡ old.link) × (heard_in new.finished ≡ heard_in old.finished)
 Happens (Does (Sends target wire after)) worker old new next =
     (next ≡ after) × (new.link ≡ after_send old.link worker target wire)
+    × (heard_in new.finished ≡ heard_in old.finished)
 Happens (Does (Takes source after)) worker old new next =
     (wire : List ℕ) × (next ≡ after wire) × (new.link ≡ after_receive old.link worker source wire)
+    × (heard_in new.finished ≡ heard_in old.finished)
 Happens (Does Stops) worker old new next = ⊥
 Happens (Hears page after) worker old new next =
     (bytes : List ℕ) × (next ≡ after bytes) × (new.link ≡ old.link)
@@ -194,3 +206,21 @@ module _ {W : Type 0} (rules : Rules W) where
   Steps old new before after (Ok turn.Ended) = IsEnded old × (new ≡ old) × (after ≡ before)
   Steps old new before after (Err fault) =
       IsFall old new old.fault fault × (after ≡ before)
+
+-- ---- the machine's own run
+
+-- A worker that went along its own run from this start stands where the machine stands: with the port's answers as answers, and
+-- with the wires that the links carried.
+pub record GoesAlong {W : Type 0} (rules : Rules W) (start : Flying (Engine rules.State) (List ℕ))
+    (machine : Seen rules.State) (link : LinkTold) : Type 0 where
+  pub bank : ℕ → List ℕ
+  pub holds : HoldSame machine bank
+  pub said : List (Call rules.State W)
+  pub along : IsAlongAnswers (λ (worker : Flying (Engine rules.State) (List ℕ)). hears_in
+      (doing rules machine.part.limits.page machine.part.directives worker.engine) worker)
+      start (worker_with machine bank) (heard_in machine.port.finished) said
+      (λ source. link.received source machine.part.worker) (λ target. link.sent machine.part.worker target)
+
+-- the core's worker before its first directive, with its driver in this state
+abbrev pub first_worker : {W : Type 0} (rules : Rules W) → (page : ℕ) → rules.State → Flying (Engine rules.State) (List ℕ)
+first_worker rules page driver = record { engine = opened rules page driver; flights = λ slot. None }

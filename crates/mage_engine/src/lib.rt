@@ -3,10 +3,12 @@
 
 mod frames;
 mod instructions;
+mod laws;
 mod machine;
 mod room;
 mod transfers;
 mod turn;
 
+pub use laws::steps_go_along;
 pub use machine::Machine;
 pub use turn::{Kind, Turn, Why};
