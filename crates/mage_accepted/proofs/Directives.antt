@@ -83,7 +83,7 @@ length-homed store (one ∷ part) = ap suc (length-homed (store_after one part s
 
 -- ---- how many directives there are
 
-sum_more : (n : ℕ) (f g : ℕ → ℕ) (w : ℕ) → ((k : ℕ) → k ≢ w → g k ≤ f k) → g w ≤ f w + 1 → sum n g ≤ sum n f + 1
+pub sum_more : (n : ℕ) (f g : ℕ → ℕ) (w : ℕ) → ((k : ℕ) → k ≢ w → g k ≤ f k) → g w ≤ f w + 1 → sum n g ≤ sum n f + 1
 sum_more zero f g w h more = omega arith
 sum_more (suc n) f g zero h more =
     let rest = sum_le n (λ k. g (suc k)) (λ k. f (suc k)) (λ k. h (suc k) (λ e. omega (arith, e))) in
@@ -93,7 +93,7 @@ sum_more (suc n) f g (suc w) h more =
     let first = h 0 (λ e. omega (arith, e)) in
     omega (arith, rest, first)
 
-sum_zero : (n : ℕ) → sum n (λ k. 0) ≡ 0
+pub sum_zero : (n : ℕ) → sum n (λ k. 0) ≡ 0
 sum_zero zero = refl
 sum_zero (suc n) = let rest = sum_zero n in omega (arith, rest)
 
@@ -183,17 +183,10 @@ module _ (buffer : ℕ) where
   pub all_idle : AreIdle at_rest
   all_idle s le = refl
 
--- a list has at most as many reads, and saves, as entries
-pub few_reads : (before list : List Replaced) → length (reads_from before list) ≤ length list
-few_reads before [] = omega arith
-few_reads before (listed.Fresh frame page ∷ list) = let rest = few_reads (listed.Fresh frame page ∷ before) list in omega (arith, rest)
-few_reads before (listed.Load frame page ∷ list) = let rest = few_reads (listed.Load frame page ∷ before) list in omega (arith, rest)
-few_reads before (listed.Save frame page ∷ list) = let rest = few_reads (listed.Save frame page ∷ before) list in omega (arith, rest)
-few_reads before (listed.Do job ∷ list) = let rest = few_reads (listed.Do job ∷ before) list in omega (arith, rest)
-
-pub few_saves : (list : List Replaced) → length (flat_map page_saved list) ≤ length list
-few_saves [] = omega arith
-few_saves (listed.Fresh frame page ∷ list) = let rest = few_saves list in omega (arith, rest)
-few_saves (listed.Load frame page ∷ list) = let rest = few_saves list in omega (arith, rest)
-few_saves (listed.Save frame page ∷ list) = let rest = few_saves list in omega (arith, rest)
-few_saves (listed.Do job ∷ list) = let rest = few_saves list in omega (arith, rest)
+-- a list has at most as many reads and saves as entries, since no entry is both
+pub few_moves : (before list : List Replaced) → length (reads_from before list) + length (flat_map page_saved list) ≤ length list
+few_moves before [] = omega arith
+few_moves before (listed.Fresh frame page ∷ list) = let rest = few_moves (listed.Fresh frame page ∷ before) list in omega (arith, rest)
+few_moves before (listed.Load frame page ∷ list) = let rest = few_moves (listed.Load frame page ∷ before) list in omega (arith, rest)
+few_moves before (listed.Save frame page ∷ list) = let rest = few_moves (listed.Save frame page ∷ before) list in omega (arith, rest)
+few_moves before (listed.Do job ∷ list) = let rest = few_moves (listed.Do job ∷ before) list in omega (arith, rest)

@@ -8,3 +8,4 @@ pub mod Lists
 pub mod Stores
 pub mod Directives
 pub mod Ranges
+pub mod Short

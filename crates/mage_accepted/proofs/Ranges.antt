@@ -8,7 +8,9 @@ use Rattle.mage_instr.specs.declared.instr.Place.{Place}
 use Rattle.mage_instr.specs.declared.instr.Step.{Step}
 use Rattle.mage_instr.specs.declared.op.Op.{Op}
 use Rattle.mage_instr.specs.declared.op.Op.TheVariants as op
+use Rattle.mage_instr.specs.declared.directive.Directive.{Directive}
 use Rattle.mage_instr.specs.declared.replaced.Limits.{Limits}
+use Rattle.mage_instr.specs.declared.replaced.Replaced.{Replaced}
 use Rattle.mage_instr.specs.Opcodes.{WidthOk}
 use Rattle.mage_instr.specs.Sound.{IsSoundAt}
 use Rattle.mage_linked.specs.declared.emitted.Emitted.{Emitted}
@@ -24,6 +26,7 @@ use Rattle.mage_place.proofs.StepsComputed.{AreSteps-computed}
 use Rattle.mage_belady.specs.Rule.{rule_of}
 use Rattle.mage_sched.specs.Homes.{Homed, empty_store}
 use Rattle.mage_sched.specs.Schedule.{schedule_of}
+use Rattle.mage_sched.specs.Scheduled.{AreBelow}
 use Rattle.mage_sched.specs.Turns.{at_rest}
 use Rattle.mage_sched.specs.Plainly.{plainly}
 use Rattle.mage_sched.proofs.Own.{own_schedule, schedules_are_plain}
@@ -34,7 +37,7 @@ use Rattle.mage_schedulable.proofs.Entries.{rule_lists_are_replaced}
 use Rattle.mage_schedulable.proofs.PlansOf.{passes_plan}
 use Rattle.mage_directives.specs.Directives.{most_pages, LinksTo, IsPart}
 use Rattle.mage_accepted.specs.Accepting.{PassedPlansAreAccepted}
-use Rattle.mage_accepted.proofs.Directives.{AreRight, right_from, written_from, right_homed, each_in_range, length-homed, few_in_turn, none_yet, all_idle, few_reads, few_saves}
+use Rattle.mage_accepted.proofs.Directives.{AreRight, right_from, written_from, right_homed, each_in_range, length-homed, few_in_turn, none_yet, all_idle, few_moves}
 use Rattle.mage_accepted.proofs.Lists.{AreInstrs, AreFine, rule_is_short}
 use Rattle.mage_accepted.proofs.Pages.{AreLow, steps_are_low}
 use Rattle.mage_accepted.proofs.Removing.{own_first}
@@ -44,7 +47,7 @@ use Rattle.mage_accepted.proofs.Together.{workers_are, carrying_plans_have_no_fa
 -- ---- the other ends of links
 
 -- the other end of each link of a worker is another worker
-abbrev AreLinks : (workers own : ℕ) → List Instr → Type 0
+abbrev pub AreLinks : (workers own : ℕ) → List Instr → Type 0
 AreLinks workers own [] = Unit {0}
 AreLinks workers own (i ∷ instrs) = LinksTo workers own i.op i.imm × AreLinks workers own instrs
 
@@ -61,7 +64,7 @@ links_first workers own e es link rest = ⊎_elim
     (λ other. subst (AreLinks workers own) (sym (own_instrs-other e es own other)) rest)
     (cases_eq e.worker own)
 
-own_links : (workers own : ℕ) (es : List Emitted) → AreLinked workers es → AreLinks workers own (own_instrs es own)
+pub own_links : (workers own : ℕ) (es : List Emitted) → AreLinked workers es → AreLinks workers own (own_instrs es own)
 own_links workers own [] nothing = tt
 own_links workers own (e ∷ es) (alone is below linked) =
     links_first workers own e es (λ same. links_alone workers own e.instr.op e.instr.imm is) (own_links workers own es linked)
@@ -105,6 +108,48 @@ short workers own frames places trace (i ∷ instrs) low are =
     let s = rule_is_short (length (i ∷ instrs)) workers own (omega arith) frames places 0 [] [] (i ∷ instrs) trace (λ q h. absurd (false≢true h)) low are in
     (s.fine, s.few)
 
+-- what the rule of replacement makes of a worker's instructions, and its schedule
+abbrev replaced : Limits → List Instr → List Replaced
+replaced limits instrs = rule_of limits.frames instrs (places_of instrs limits.page) (trace_of instrs (places_of instrs limits.page))
+
+abbrev given : Limits → List Instr → List Directive
+given limits instrs = schedule_of limits.buffer limits.ahead (replaced limits instrs)
+
+-- what the passes make of a worker's instructions is fine, short, and on the pages of its store
+pub record IsShort (limits : Limits) (workers own : ℕ) (instrs : List Instr) : Type 0 where
+  pub fine : AreFine (length instrs) workers own (plainly at_rest (given limits instrs))
+  pub few : length (passed limits instrs).directives ≤ 18 * length instrs
+  pub below : AreBelow (passed limits instrs).count (passed limits instrs).directives
+
+pub passed_is_short : (limits : Limits) (workers own : ℕ) (instrs : List Instr) → CanBePlanned limits instrs
+    → AreLinks workers own instrs
+    → IsShort limits workers own instrs
+passed_is_short limits workers own instrs can links =
+    let places = places_of instrs limits.page in
+    let trace = trace_of instrs places in
+    let are = ArePlaces-computed instrs limits.page in
+    let steps = AreSteps-computed instrs places can.sound are.count in
+    let list = replaced limits instrs in
+    let rule = rule_lists_are_replaced limits.frames instrs places trace can.sound steps can.frames in
+    let s = short workers own limits.frames places trace instrs (steps_are_low instrs limits.page places trace are steps)
+    (are_instrs workers own instrs (λ t. wide_at (slice_get instrs t) instrs t (can.sound.each t)) links) in
+    let schedule = own_schedule limits.buffer limits.ahead list rule can.buffer in
+    let plain : plainly at_rest (given limits instrs) ≡ list = (schedules_are_plain limits.buffer limits.ahead list rule can.buffer).1 in
+    let planned = lists_are_planned limits.buffer limits.ahead list rule can.buffer in
+    let long : length (passed limits instrs).directives ≡ length (given limits instrs) = length-homed empty_store (given limits instrs) in
+    let turns = few_in_turn limits.buffer (given limits instrs) at_rest (all_idle limits.buffer) schedule.turns in
+    let none = none_yet limits.buffer in
+    let listed : length (plainly at_rest (given limits instrs)) ≡ length list = ap length plain in
+    let moves = few_moves [] list in
+    let asked = schedule.asked in
+    let sent = schedule.sent in
+    let nine = s.1 in
+    record {
+      fine = subst (AreFine (length instrs) workers own) (sym plain) s.0;
+      few = omega (arith, nine, long, turns, none, listed, moves, asked, sent);
+      below = planned.below;
+    }
+
 -- what the passes make of a worker's instructions is in range
 record IsInRange (workers own : ℕ) (made : Homed) : Type 0 where
   part : IsPart workers own made.directives
@@ -114,35 +159,15 @@ passed_in_range : (limits : Limits) (workers own : ℕ) (instrs : List Instr) �
     → length instrs ≤ most_pages → AreLinks workers own instrs
     → IsInRange workers own (passed limits instrs)
 passed_in_range limits workers own instrs can few links =
-    let places = places_of instrs limits.page in
-    let trace = trace_of instrs places in
-    let are = ArePlaces-computed instrs limits.page in
-    let steps = AreSteps-computed instrs places can.sound are.count in
-    let list = rule_of limits.frames instrs places trace in
-    let rule = rule_lists_are_replaced limits.frames instrs places trace can.sound steps can.frames in
-    let s = short workers own limits.frames places trace instrs (steps_are_low instrs limits.page places trace are steps)
-    (are_instrs workers own instrs (λ t. wide_at (slice_get instrs t) instrs t (can.sound.each t)) links) in
-    let given = schedule_of limits.buffer limits.ahead list in
-    let schedule = own_schedule limits.buffer limits.ahead list rule can.buffer in
-    let plain : plainly at_rest given ≡ list = (schedules_are_plain limits.buffer limits.ahead list rule can.buffer).1 in
-    let fine : AreFine (length instrs) workers own (plainly at_rest given) = subst (AreFine (length instrs) workers own) (sym plain) s.0 in
-    let count : (passed limits instrs).count ≤ length instrs = few_store_pages (length instrs) given (written_from (length instrs) workers own at_rest given fine) in
+    let is = passed_is_short limits workers own instrs can links in
+    let count : (passed limits instrs).count ≤ length instrs = few_store_pages (length instrs) (given limits instrs) (written_from (length instrs) workers own at_rest (given limits instrs) is.fine) in
     let right : AreRight (length instrs) workers own (passed limits instrs).directives =
-    right_homed (length instrs) workers own empty_store given (right_from (length instrs) workers own at_rest given fine) in
-    let planned = lists_are_planned limits.buffer limits.ahead list rule can.buffer in
-    let long : length (passed limits instrs).directives ≡ length given = length-homed empty_store given in
-    let turns = few_in_turn limits.buffer given at_rest (all_idle limits.buffer) schedule.turns in
-    let none = none_yet limits.buffer in
-    let listed : length (plainly at_rest given) ≡ length list = ap length plain in
-    let reads = few_reads [] list in
-    let saves = few_saves list in
-    let asked = schedule.asked in
-    let sent = schedule.sent in
-    let short = s.1 in
+    right_homed (length instrs) workers own empty_store (given limits instrs) (right_from (length instrs) workers own at_rest (given limits instrs) is.fine) in
+    let short = is.few in
     record {
       part = record {
-        count = omega (arith, few, short, long, turns, none, listed, reads, saves, asked, sent);
-        each = each_in_range (length instrs) workers own (passed limits instrs).count (passed limits instrs).directives few (omega (arith, count, few)) right planned.below;
+        count = omega (arith, few, short);
+        each = each_in_range (length instrs) workers own (passed limits instrs).count (passed limits instrs).directives few (omega (arith, count, few)) right is.below;
       };
       stores = omega (arith, count, few);
     }

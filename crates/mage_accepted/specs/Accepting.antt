@@ -1,5 +1,6 @@
 -- That the verifier accepts a memory program that carries a linked program.
-use Rattle.std.specs.Prelude.{◌≡◌, ◌≤◌, ℕ, List, length, map, None}
+use Rattle.std.specs.Prelude.{◌≡◌, ◌≤◌, ◌*◌, ℕ, List, length, map, None}
+use Rattle.std.specs.List.{sum_by}
 use Rattle.mage_instr.specs.declared.instr.Instr.{Instr}
 use Rattle.mage_instr.specs.declared.directive.Directive.{Directive}
 use Rattle.mage_instr.specs.declared.directive.MemProgram.{MemProgram}
@@ -43,3 +44,15 @@ PassedPlansAreAccepted =
     → AreInRange limits → 1 ≤ count → count ≤ most_workers → length emitted ≤ most_pages
     → AreLinked count emitted → AllCanBePlanned limits (program_of count emitted).workers
     → IsAccepted (memory_program_of limits (map (passed limits) (program_of count emitted).workers))
+
+-- how many directives a memory program has, all workers together
+abbrev pub directives_in : MemProgram → ℕ
+directives_in plan = sum_by (λ part. length part) plan.workers
+
+-- What the passes make of a program whose workers are linked has at most 18 directives for each of its instructions, all workers
+-- together.
+abbrev pub PassedPlansAreShort : Type 0
+PassedPlansAreShort =
+    (limits : Limits) (count : ℕ) (emitted : List Emitted)
+    → AreLinked count emitted → AllCanBePlanned limits (program_of count emitted).workers
+    → directives_in (memory_program_of limits (map (passed limits) (program_of count emitted).workers)) ≤ 18 * length emitted

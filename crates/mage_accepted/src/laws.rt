@@ -1,5 +1,5 @@
 // What the verifier says of memory programs that carry a program.
-ghost use Rattle.mage_accepted.specs.Accepting.{CarryingPartsHaveNoFault, CarryingPlansHaveNoFault, PassedPlansAreAccepted};
+ghost use Rattle.mage_accepted.specs.Accepting.{CarryingPartsHaveNoFault, CarryingPlansHaveNoFault, PassedPlansAreAccepted, PassedPlansAreShort};
 
 /// A worker's directives that break no rule of the walk, and leave nothing over, have no fault by themselves: each index is in
 /// range, each slot does what is asked of it, each page that is transferred stands still, and each that is read was stored.
@@ -18,4 +18,10 @@ pub fn carrying_plans_have_no_fault()
 /// instructions than a store may have pages.
 pub fn passed_plans_are_accepted()
     ensures { PassedPlansAreAccepted }
+{}
+
+/// What the passes make of a program whose workers are linked is short: all workers' directives together are at most 18 for each
+/// of its instructions. The limits suffice for each worker.
+pub fn passed_plans_are_short()
+    ensures { PassedPlansAreShort }
 {}

@@ -5,4 +5,5 @@ mod laws;
 
 pub use laws::{
     carrying_parts_have_no_fault, carrying_plans_have_no_fault, passed_plans_are_accepted,
+    passed_plans_are_short,
 };
