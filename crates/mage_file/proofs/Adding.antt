@@ -5,11 +5,12 @@ use Rattle.std.specs.Int.{w8, w32, to_be_bytes}
 use Rattle.mage_instr.specs.declared.replaced.Job.{Job}
 use Rattle.mage_instr.specs.declared.directive.Directive.{Directive}
 use Rattle.mage_file.specs.declared.section.Section.{Section}
+use Rattle.mage_file.specs.declared.version.Version.{Version}
 use Rattle.mage_file.specs.Rules.{is_const}
 use Rattle.mage_file.specs.Formats.{Format, chain, done, either, field, number, spell_all}
 use Rattle.mage_instr.specs.declared.directive.Directive.TheVariants as entry
 use Rattle.mage_file.specs.Codes.{kind_of}
-use Rattle.mage_file.specs.Grammar.{instruction, constant, job, row, row_in, directive_of, directive, section, sections_of}
+use Rattle.mage_file.specs.Grammar.{instruction, constant, job, row, row_in, directive_of, directive, store, told, section, sections_of}
 
 pub adds : (old bytes more new : List ℕ) → new ≡ old ++ bytes → new ++ more ≡ old ++ (bytes ++ more)
 adds old bytes more new e = ap (λ (t : List ℕ). t ++ more) e ∙ append_assoc old bytes more
@@ -110,13 +111,13 @@ directives_same workers own from [] more = refl
 directives_same workers own from (d ∷ ds) more =
     ap ((directive 0 0).spell d) (directives_same workers own (from + 1) ds more) ∙ directive_same workers own d (spell_all (λ _. directive workers own) (from + 1) ds more)
 
-section_same : (workers own : ℕ) (s : Section) (more : List ℕ) → (section 0 0).spell s more ≡ (section workers own).spell s more
-unfolding section chain done field number
-section_same workers own s more =
-    ap (λ (t : List ℕ). to_be_bytes w32 s.pages ++ (to_be_bytes w32 (length s.directives) ++ t)) (directives_same workers own 0 s.directives more)
+section_same : (v : Version) (workers own : ℕ) (s : Section) (more : List ℕ) → (section v 0 0).spell s more ≡ (section v workers own).spell s more
+unfolding section chain done number
+section_same v workers own s more =
+    ap (λ (t : List ℕ). (store v).spell (told v s) (to_be_bytes w32 (length s.directives) ++ t)) (directives_same workers own 0 s.directives more)
 
-pub sections_same : (workers from : ℕ) (ss : List Section) (more : List ℕ) → spell_all (λ _. section 0 0) from ss more ≡ spell_all (section workers) from ss more
+pub sections_same : (v : Version) (workers from : ℕ) (ss : List Section) (more : List ℕ) → spell_all (λ _. section v 0 0) from ss more ≡ spell_all (section v workers) from ss more
 unfolding spell_all
-sections_same workers from [] more = refl
-sections_same workers from (s ∷ ss) more =
-    ap ((section 0 0).spell s) (sections_same workers (from + 1) ss more) ∙ section_same workers from s (spell_all (section workers) (from + 1) ss more)
+sections_same v workers from [] more = refl
+sections_same v workers from (s ∷ ss) more =
+    ap ((section v 0 0).spell s) (sections_same v workers (from + 1) ss more) ∙ section_same v workers from s (spell_all (section v workers) (from + 1) ss more)

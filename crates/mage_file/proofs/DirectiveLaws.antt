@@ -7,13 +7,13 @@ use Rattle.mage_instr.specs.declared.op.Op.TheVariants as op
 use Rattle.mage_instr.specs.declared.replaced.Job.{Job}
 use Rattle.mage_instr.specs.declared.directive.Directive.{Directive}
 use Rattle.mage_instr.specs.declared.directive.Directive.TheVariants as entry
-use Rattle.mage_directives.specs.Directives.{IsDirective}
+use Rattle.mage_directives.specs.Directives.{most_pages, IsDirective}
 use Rattle.mage_file.specs.declared.fault.FileFault.{FileFault}
 use Rattle.mage_file.specs.declared.kind.Kind.{Kind}
 use Rattle.mage_file.specs.declared.kind.Kind.TheVariants as kind
 use Rattle.mage_file.specs.declared.kind.Row.{Row}
 use Rattle.mage_file.specs.Codes.{code_of, kinds, kind_with, kind_of}
-use Rattle.mage_file.specs.Rules.{within, most_if}
+use Rattle.mage_file.specs.Rules.{within, most_if, most_of_two_bytes, greatest_page}
 use Rattle.mage_file.specs.Formats.{Rest, after, Format, ◌of◌, chain, done, number_of, number, field, place}
 use Rattle.mage_file.specs.Laws.{AreBytes, IsDirectiveValue}
 use Rattle.mage_file.specs.Grammar.{job, row, row_in, job_in, known, code, directive_of, directive}
@@ -24,7 +24,7 @@ use Rattle.mage_file.proofs.JobLaws.{Half, half, half_of, absent, Is, spells_job
 -- ---- rows
 
 abbrev pub Page : Bool → ℕ → Type 0
-Page there = Fields (2 ^ 32) (within 0 (most_if there 1999999))
+Page there = Fields (2 ^ 32) (within 0 (most_if there greatest_page))
 
 abbrev pub made : (slot frame page : ℕ) → Row
 made slot frame page = record { slot = slot; frame = frame; page = page }
@@ -39,18 +39,18 @@ spells_row slot frame page =
     let last : ℕ → ℕ → ℕ → ℕ → Format Row = λ s f p none. done (made s f p) in
     let before_last : ℕ → ℕ → ℕ → ℕ → Format Row = λ s f p none. chain (field w32 (within 0 0) of (λ (r : Row). 0)) (last s f p) in
     let with_page : ℕ → ℕ → ℕ → Format Row = λ s f p. chain (field w32 (within 0 0) of (λ (r : Row). 0)) (before_last s f p) in
-    let with_gap : ℕ → ℕ → ℕ → Format Row = λ s f none. chain (field w32 (within 0 (most_if page 1999999)) of (λ (r : Row). r.page)) (with_page s f) in
+    let with_gap : ℕ → ℕ → ℕ → Format Row = λ s f none. chain (field w32 (within 0 (most_if page greatest_page)) of (λ (r : Row). r.page)) (with_page s f) in
     let with_frame : ℕ → ℕ → Format Row = λ s f. chain (field w16 (within 0 0) of (λ (r : Row). 0)) (with_gap s f) in
-    let with_slot : ℕ → Format Row = λ s. chain (field w16 (within 0 (most_if frame 65535)) of (λ (r : Row). r.frame)) (with_frame s) in
-    let start : ℕ → Format Row = λ none. chain (field w16 (within 0 (most_if slot 65535)) of (λ (r : Row). r.slot)) with_slot in
+    let with_slot : ℕ → Format Row = λ s. chain (field w16 (within 0 (most_if frame most_of_two_bytes)) of (λ (r : Row). r.frame)) (with_frame s) in
+    let start : ℕ → Format Row = λ none. chain (field w16 (within 0 (most_if slot most_of_two_bytes)) of (λ (r : Row). r.slot)) with_slot in
     zero_then Row w8 (2 ^ 8) start (IsRow slot frame page) wide8 (lit< tt)
-    (spells_chain ℕ Row (field w16 (within 0 (most_if slot 65535))) (λ y. y.slot) with_slot
+    (spells_chain ℕ Row (field w16 (within 0 (most_if slot most_of_two_bytes))) (λ y. y.slot) with_slot
     (Half slot) (λ s y. Half frame y.frame × (Page page y.page × (y ≡ made s y.frame y.page))) (half slot)
-    (λ s _. spells_chain ℕ Row (field w16 (within 0 (most_if frame 65535))) (λ y. y.frame) (with_frame s)
+    (λ s _. spells_chain ℕ Row (field w16 (within 0 (most_if frame most_of_two_bytes))) (λ y. y.frame) (with_frame s)
     (Half frame) (λ f y. Page page y.page × (y ≡ made s f y.page)) (half frame)
     (λ f _. zero_then Row w16 (2 ^ 16) (with_gap s f) (λ y. Page page y.page × (y ≡ made s f y.page)) wide16 (lit< tt)
-    (spells_chain ℕ Row (field w32 (within 0 (most_if page 1999999))) (λ y. y.page) (with_page s f)
-    (Page page) (λ p y. y ≡ made s f p) (spells_field w32 (2 ^ 32) (within 0 (most_if page 1999999)) wide32)
+    (spells_chain ℕ Row (field w32 (within 0 (most_if page greatest_page))) (λ y. y.page) (with_page s f)
+    (Page page) (λ p y. y ≡ made s f p) (spells_field w32 (2 ^ 32) (within 0 (most_if page greatest_page)) wide32)
     (λ p _. zero_then Row w32 (2 ^ 32) (before_last s f p) (λ y. y ≡ made s f p) wide32 (lit< tt)
     (zero_then Row w32 (2 ^ 32) (last s f p) (λ y. y ≡ made s f p) wide32 (lit< tt) (spells_done Row (made s f p))))
     (λ p y has q. ap (λ (z : Row). z.page) q)))
@@ -168,11 +168,11 @@ IsOf workers own k d = (kind_of d ≡ k) × IsRight workers own d
 no_page : (n : ℕ) → Page false n → n ≡ 0
 no_page n h = omega (arith, (within_is 0 0 n h.1).1)
 
-some_page : (n : ℕ) → Page true n → n < 2000000
-some_page n h = omega (arith, (within_is 0 1999999 n h.1).1)
+some_page : (n : ℕ) → Page true n → n < most_pages
+some_page n h = omega (arith, (within_is 0 greatest_page n h.1).1)
 
-page_of : (n : ℕ) → n < 2000000 → Page true n
-page_of n lt = (omega arith, is_within 0 1999999 n (omega arith) (omega arith))
+page_of : (n : ℕ) → n < most_pages → Page true n
+page_of n lt = (omega arith, is_within 0 greatest_page n (omega arith) (omega arith))
 
 page_zero : Page false 0
 page_zero = (lit< tt, refl)

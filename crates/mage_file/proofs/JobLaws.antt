@@ -10,7 +10,7 @@ use Rattle.mage_instr.specs.declared.replaced.Job.{Job}
 use Rattle.mage_instr.specs.declared.replaced.Spot.{Spot}
 use Rattle.mage_instr.specs.Opcodes.{arity_of, has_result, greatest_width, ImmOk, WidthOk}
 use Rattle.mage_directives.specs.Directives.{no_spot, arg_at, LinksTo, IsJob}
-use Rattle.mage_file.specs.Rules.{within, most_if, width_test, is_imm, is_link, is_immediate, is_const, both_pass}
+use Rattle.mage_file.specs.Rules.{within, most_if, most_of_two_bytes, width_test, is_imm, is_link, is_immediate, is_const, both_pass}
 use Rattle.mage_file.specs.Formats.{Format, ◌of◌, chain, done, either, field}
 use Rattle.mage_file.specs.Grammar.{spot, instruction, constant, job}
 use Rattle.mage_file.specs.Laws.{IsSpotValue, IsJobValue}
@@ -21,19 +21,19 @@ use Rattle.mage_file.proofs.FieldLaws.{Fields, wide8, wide16, wide64, spells_fie
 
 -- a number of two bytes, which is 0 where it isn't there
 abbrev pub Half : Bool → ℕ → Type 0
-Half there = Fields (2 ^ 16) (within 0 (most_if there 65535))
+Half there = Fields (2 ^ 16) (within 0 (most_if there most_of_two_bytes))
 
 abbrev pub Spotted : Bool → Spot → Type 0
 Spotted there y = Half there y.frame × Half there y.offset
 
-pub half : (there : Bool) → Spells ℕ (field w16 (within 0 (most_if there 65535))) (Half there)
-half there = spells_field w16 (2 ^ 16) (within 0 (most_if there 65535)) wide16
+pub half : (there : Bool) → Spells ℕ (field w16 (within 0 (most_if there most_of_two_bytes))) (Half there)
+half there = spells_field w16 (2 ^ 16) (within 0 (most_if there most_of_two_bytes)) wide16
 
 pub spells_spot : (there : Bool) → Spells Spot (spot there) (Spotted there)
 unfolding spot
 spells_spot there =
     let made : ℕ → ℕ → Spot = λ frame offset. record { frame = frame; offset = offset } in
-    let rule : ℕ → Bool = within 0 (most_if there 65535) in
+    let rule : ℕ → Bool = within 0 (most_if there most_of_two_bytes) in
     let with_frame : ℕ → Format Spot = λ frame. chain (field w16 rule of (λ (s : Spot). s.offset)) (λ offset. done (made frame offset)) in
     respelled Spot (spot there) (λ y. Half there y.frame × (Half there y.offset × (y ≡ made y.frame y.offset))) (Spotted there)
     (spells_chain ℕ Spot (field w16 rule) (λ y. y.frame) with_frame (Half there) (λ a y. Half there y.offset × (y ≡ made a y.offset)) (half there)
@@ -175,7 +175,7 @@ spot_value : (there : Bool) (s : Spot) → Spotted there s → IsSpotValue s
 spot_value there s h = record { frame = h.0.0; offset = h.1.0 }
 
 pub half_of : (there : Bool) (n : ℕ) → n < 2 ^ 16 → (there ≡ false → n ≡ 0) → Half there n
-half_of true n lt h = (lt, is_within 0 65535 n (omega arith) (omega arith))
+half_of true n lt h = (lt, is_within 0 most_of_two_bytes n (omega arith) (omega arith))
 half_of false n lt h = (lt, is_within 0 0 n (omega arith) (omega (arith, h refl)))
 
 pub spotted_of : (there : Bool) (s : Spot) → IsSpotValue s → (there ≡ false → s ≡ no_spot) → Spotted there s

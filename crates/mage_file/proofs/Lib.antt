@@ -4,5 +4,6 @@ pub mod JobLaws
 pub mod DirectiveLaws
 pub mod LimitLaws
 pub mod FileLaws
+pub mod LengthLaws
 pub mod Loops
 pub mod Adding

@@ -5,7 +5,7 @@ use Rattle.std.specs.List.{AllByRecursion, list_any}
 use Rattle.std.proofs.Math.Pow.{pow_mono}
 use Rattle.std.proofs.lemmas.Bool.{leb-true, le-leb}
 use Rattle.mage_instr.specs.declared.replaced.Limits.{Limits}
-use Rattle.mage_instr.specs.Limits.{AreInRange}
+use Rattle.mage_instr.specs.Limits.{most_frames, most_slots, most_ahead, most_wires, AreInRange}
 use Rattle.mage_file.specs.Rules.{within, is_page, is_buffer}
 use Rattle.mage_file.specs.Formats.{Format, ◌of◌, chain, done, field}
 use Rattle.mage_file.specs.Grammar.{limits}
@@ -19,7 +19,7 @@ abbrev pub F : (ℕ → Bool) → ℕ → Type 0
 F rule = Fields (2 ^ 32) rule
 
 abbrev pub AreRead : Limits → Type 0
-AreRead y = F is_page y.page × (F (within 1 65536) y.frames × (F (is_buffer y.page y.frames) y.buffer × (F (within 0 1000000) y.ahead
+AreRead y = F is_page y.page × (F (within 1 most_frames) y.frames × (F (is_buffer y.page y.frames) y.buffer × (F (within 0 most_ahead) y.ahead
     × (y ≡ made y.page y.frames y.buffer y.ahead))))
 
 four : (rule : ℕ → Bool) → Spells ℕ (field w32 rule) (F rule)
@@ -29,23 +29,23 @@ spells_fields : Spells Limits limits AreRead
 unfolding limits
 spells_fields =
     let last : ℕ → ℕ → ℕ → ℕ → Format Limits = λ p f b a. done (made p f b a) in
-    let with_buffer : ℕ → ℕ → ℕ → Format Limits = λ p f b. chain (field w32 (within 0 1000000) of (λ (y : Limits). y.ahead)) (last p f b) in
+    let with_buffer : ℕ → ℕ → ℕ → Format Limits = λ p f b. chain (field w32 (within 0 most_ahead) of (λ (y : Limits). y.ahead)) (last p f b) in
     let with_frames : ℕ → ℕ → Format Limits = λ p f. chain (field w32 (is_buffer p f) of (λ (y : Limits). y.buffer)) (with_buffer p f) in
-    let with_page : ℕ → Format Limits = λ p. chain (field w32 (within 1 65536) of (λ (y : Limits). y.frames)) (with_frames p) in
+    let with_page : ℕ → Format Limits = λ p. chain (field w32 (within 1 most_frames) of (λ (y : Limits). y.frames)) (with_frames p) in
     spells_chain ℕ Limits (field w32 is_page) (λ y. y.page) with_page
     (F is_page)
-    (λ p y. F (within 1 65536) y.frames × (F (is_buffer p y.frames) y.buffer × (F (within 0 1000000) y.ahead × (y ≡ made p y.frames y.buffer y.ahead))))
+    (λ p y. F (within 1 most_frames) y.frames × (F (is_buffer p y.frames) y.buffer × (F (within 0 most_ahead) y.ahead × (y ≡ made p y.frames y.buffer y.ahead))))
     (four is_page)
-    (λ p _. spells_chain ℕ Limits (field w32 (within 1 65536)) (λ y. y.frames) (with_frames p)
-    (F (within 1 65536))
-    (λ f y. F (is_buffer p f) y.buffer × (F (within 0 1000000) y.ahead × (y ≡ made p f y.buffer y.ahead)))
-    (four (within 1 65536))
+    (λ p _. spells_chain ℕ Limits (field w32 (within 1 most_frames)) (λ y. y.frames) (with_frames p)
+    (F (within 1 most_frames))
+    (λ f y. F (is_buffer p f) y.buffer × (F (within 0 most_ahead) y.ahead × (y ≡ made p f y.buffer y.ahead)))
+    (four (within 1 most_frames))
     (λ f _. spells_chain ℕ Limits (field w32 (is_buffer p f)) (λ y. y.buffer) (with_buffer p f)
     (F (is_buffer p f))
-    (λ b y. F (within 0 1000000) y.ahead × (y ≡ made p f b y.ahead))
+    (λ b y. F (within 0 most_ahead) y.ahead × (y ≡ made p f b y.ahead))
     (four (is_buffer p f))
-    (λ b _. spells_chain ℕ Limits (field w32 (within 0 1000000)) (λ y. y.ahead) (last p f b)
-    (F (within 0 1000000)) (λ a y. y ≡ made p f b a) (four (within 0 1000000))
+    (λ b _. spells_chain ℕ Limits (field w32 (within 0 most_ahead)) (λ y. y.ahead) (last p f b)
+    (F (within 0 most_ahead)) (λ a y. y ≡ made p f b a) (four (within 0 most_ahead))
     (λ a _. spells_done Limits (made p f b a))
     (λ a y has q. ap (λ (z : Limits). z.ahead) q))
     (λ b y has q. ap (λ (z : Limits). z.buffer) q.1))
@@ -112,15 +112,15 @@ power_is (suc (suc (suc (suc (suc (suc (suc (suc (suc (suc (suc (suc (suc (suc (
 
 limits_read : (y : Limits) → AreRead y → AreInRange y
 limits_read y q =
-    let frames = within_is 1 65536 y.frames q.1.0.1 in
-    let buffer = and_both (leb y.buffer 4096) (leb ((y.frames + y.buffer) * y.page) 4194304) q.1.1.0.1 in
+    let frames = within_is 1 most_frames y.frames q.1.0.1 in
+    let buffer = and_both (leb y.buffer most_slots) (leb ((y.frames + y.buffer) * y.page) most_wires) q.1.1.0.1 in
     record {
       page = page_is y.page q.0.1;
       some_frame = frames.0;
       frames = frames.1;
-      buffer = leb-true y.buffer 4096 buffer.0;
-      ahead = (within_is 0 1000000 y.ahead q.1.1.1.0.1).1;
-      wires = leb-true ((y.frames + y.buffer) * y.page) 4194304 buffer.1;
+      buffer = leb-true y.buffer most_slots buffer.0;
+      ahead = (within_is 0 most_ahead y.ahead q.1.1.1.0.1).1;
+      wires = leb-true ((y.frames + y.buffer) * y.page) most_wires buffer.1;
     }
 
 read_limits : (y : Limits) → AreInRange y → AreRead y
@@ -130,10 +130,10 @@ read_limits y r =
     let small : y.page < 2 ^ 32 = omega (arith, grows, r.page.3) in (
       (small, page),
       (
-        (omega (arith, r.frames), is_within 1 65536 y.frames r.some_frame r.frames),
+        (omega (arith, r.frames), is_within 1 most_frames y.frames r.some_frame r.frames),
         (
-          (omega (arith, r.buffer), both_and (leb y.buffer 4096) (leb ((y.frames + y.buffer) * y.page) 4194304) (le-leb y.buffer 4096 r.buffer) (le-leb ((y.frames + y.buffer) * y.page) 4194304 r.wires)),
-          ((omega (arith, r.ahead), is_within 0 1000000 y.ahead (omega arith) r.ahead), refl),
+          (omega (arith, r.buffer), both_and (leb y.buffer most_slots) (leb ((y.frames + y.buffer) * y.page) most_wires) (le-leb y.buffer most_slots r.buffer) (le-leb ((y.frames + y.buffer) * y.page) most_wires r.wires)),
+          ((omega (arith, r.ahead), is_within 0 most_ahead y.ahead (omega arith) r.ahead), refl),
         ),
       ),
     )

@@ -1,5 +1,5 @@
--- The fields of the file of a memory program, in their order. From this one list both are taken: what is read of some bytes,
--- and how a program is spelled.
+-- The fields of the file of a memory program, in their order, for both versions. From this one list both are taken: what is
+-- read of some bytes, and how a program is spelled.
 use Rattle.std.specs.Prelude.{ℕ, Bool, true, false, List, [], ◌∷◌, ◌++◌, length, map, nat_lt, ◌==◌, codes, Option, Some, None, Result, Ok, Err, if◌then◌else◌}
 use Rattle.std.specs.Int.{w8, w16, w32, w64, to_be_bytes}
 use Rattle.mage_instr.specs.declared.op.Op.{Op}
@@ -10,6 +10,7 @@ use Rattle.mage_instr.specs.declared.replaced.Limits.{Limits}
 use Rattle.mage_instr.specs.declared.directive.Directive.{Directive}
 use Rattle.mage_instr.specs.declared.directive.Directive.TheVariants as entry
 use Rattle.mage_instr.specs.declared.directive.MemProgram.{MemProgram}
+use Rattle.mage_instr.specs.Limits.{most_frames, most_ahead}
 use Rattle.mage_instr.specs.Opcodes.{arity_of, has_result, greatest_width, most_workers}
 use Rattle.mage_directives.specs.Directives.{no_spot, arg_at, most_pages}
 use Rattle.mage_file.specs.declared.fault.FileFault.{FileFault}
@@ -18,8 +19,11 @@ use Rattle.mage_file.specs.declared.kind.Kind.{Kind}
 use Rattle.mage_file.specs.declared.kind.Kind.TheVariants as kind
 use Rattle.mage_file.specs.declared.kind.Row.{Row}
 use Rattle.mage_file.specs.declared.section.Section.{Section}
+use Rattle.mage_file.specs.declared.version.Version.{Version}
+use Rattle.mage_file.specs.declared.version.Version.TheVariants as version
 use Rattle.mage_file.specs.Codes.{code_of, kind_with, kind_of}
-use Rattle.mage_file.specs.Rules.{within, most_if, is_page, is_buffer, is_imm, is_immediate, is_const}
+use Rattle.mage_file.specs.Rules.{within, most_if, most_of_two_bytes, greatest_page, is_page, is_buffer, is_imm, is_immediate, is_const}
+use Rattle.mage_file.specs.Stores.{pages_in}
 use Rattle.mage_file.specs.Formats.{Rest, after, Format, ◌of◌, ◌>>=◌, done, either, number_of, number, field, text, listed, place}
 
 -- ---- instructions
@@ -27,8 +31,8 @@ use Rattle.mage_file.specs.Formats.{Rest, after, Format, ◌of◌, ◌>>=◌, do
 -- frame and offset, where there is a spot; else both are 0
 unfoldable pub spot : (there : Bool) → Format Spot
 spot there = do
-  frame ← field w16 (within 0 (most_if there 65535)) of (λ (s : Spot). s.frame)
-  offset ← field w16 (within 0 (most_if there 65535)) of (λ (s : Spot). s.offset)
+  frame ← field w16 (within 0 (most_if there most_of_two_bytes)) of (λ (s : Spot). s.frame)
+  offset ← field w16 (within 0 (most_if there most_of_two_bytes)) of (λ (s : Spot). s.offset)
   done (record { frame = frame; offset = offset })
 
 -- an instruction but Const, behind its width
@@ -62,10 +66,10 @@ job workers own o = do
 unfoldable pub row : (slot frame page : Bool) → Format Row
 row slot frame page = do
   none ← field w8 (within 0 0) of (λ (r : Row). 0)
-  s ← field w16 (within 0 (most_if slot 65535)) of (λ (r : Row). r.slot)
-  f ← field w16 (within 0 (most_if frame 65535)) of (λ (r : Row). r.frame)
+  s ← field w16 (within 0 (most_if slot most_of_two_bytes)) of (λ (r : Row). r.slot)
+  f ← field w16 (within 0 (most_if frame most_of_two_bytes)) of (λ (r : Row). r.frame)
   none ← field w16 (within 0 0) of (λ (r : Row). 0)
-  p ← field w32 (within 0 (most_if page 1999999)) of (λ (r : Row). r.page)
+  p ← field w32 (within 0 (most_if page greatest_page)) of (λ (r : Row). r.page)
   none ← field w32 (within 0 0) of (λ (r : Row). 0)
   none ← field w32 (within 0 0) of (λ (r : Row). 0)
   done (record { slot = s; frame = f; page = p })
@@ -126,13 +130,23 @@ directive workers own = do
 
 -- ---- workers
 
+-- what a file tells of the pages of a store: the first version tells nothing
+unfoldable pub store : Version → Format ℕ
+store version.First = done 0
+store version.Second = field w32 (within 0 most_pages)
+
+-- the number of pages that is told; 0 stands for none
+abbrev pub told : Version → Section → ℕ
+told version.First s = 0
+told version.Second s = s.pages
+
 -- the part of one of so many workers, with how many directives it has
-unfoldable pub section : (workers own : ℕ) → Format Section
-section workers own = do
-  pages ← field w32 (within 0 most_pages) of (λ (s : Section). s.pages)
+unfoldable pub section : Version → (workers own : ℕ) → Format Section
+section v workers own = do
+  pages ← store v of told v
   count ← number w32 of (λ (s : Section). length s.directives)
   directives ← listed count (λ _. directive workers own) of (λ (s : Section). s.directives)
-  done (record { pages = pages; directives = directives })
+  done (record { pages = pages_in v pages directives; directives = directives })
 
 -- each worker's store and directives together
 abbrev pub sections_of : (stores : List ℕ) → (workers : List (List Directive)) → List Section
@@ -147,16 +161,21 @@ sections_in program = sections_of program.stores program.workers
 unfoldable pub limits : Format Limits
 limits = do
   page ← field w32 is_page of (λ (y : Limits). y.page)
-  frames ← field w32 (within 1 65536) of (λ (y : Limits). y.frames)
+  frames ← field w32 (within 1 most_frames) of (λ (y : Limits). y.frames)
   buffer ← field w32 (is_buffer page frames) of (λ (y : Limits). y.buffer)
-  ahead ← field w32 (within 0 1000000) of (λ (y : Limits). y.ahead)
+  ahead ← field w32 (within 0 most_ahead) of (λ (y : Limits). y.ahead)
   done (record { page = page; frames = frames; buffer = buffer; ahead = ahead })
 
+-- how a version is called in a file
+abbrev pub digits : Version → List ℕ
+digits version.First = codes "01"
+digits version.Second = codes "02"
+
 -- how many workers there are
-unfoldable pub head : Format ℕ
-head = do
+unfoldable pub head : Version → Format ℕ
+head v = do
   magic ← text (codes "MAGEMP") faults.Magic of (λ (n : ℕ). tt)
-  version ← text (codes "02") faults.Version of (λ (n : ℕ). tt)
+  version ← text (digits v) faults.Version of (λ (n : ℕ). tt)
   workers ← field w16 (within 1 most_workers) of (λ (n : ℕ). n)
   none ← field w16 (within 0 0) of (λ (n : ℕ). 0)
   done workers
@@ -166,11 +185,11 @@ abbrev pub program_of : Limits → List Section → MemProgram
 program_of bounds sections = record { limits = bounds; stores = map (λ s. s.pages) sections; workers = map (λ s. s.directives) sections }
 
 -- a whole file
-unfoldable pub file : Format MemProgram
-file = do
-  workers ← head of (λ (m : MemProgram). length m.workers)
+unfoldable pub file : Version → Format MemProgram
+file v = do
+  workers ← head v of (λ (m : MemProgram). length m.workers)
   bounds ← limits of (λ (m : MemProgram). m.limits)
-  sections ← listed workers (section workers) of sections_in
+  sections ← listed workers (section v workers) of sections_in
   done (program_of bounds sections)
 
 -- ---- whole files
@@ -179,9 +198,25 @@ file = do
 abbrev pub most_bytes : ℕ
 most_bytes = 1073741824
 
+-- the most bytes of a file of the first version, so that of the second version its program has no file that is too long
+abbrev pub most_first_bytes : ℕ
+most_first_bytes = 1073741760
+
+abbrev pub most_in : Version → ℕ
+most_in version.First = most_first_bytes
+most_in version.Second = most_bytes
+
+-- the spelling of a memory program in a version
+abbrev pub spelling_in : Version → MemProgram → List ℕ
+spelling_in v program = (file v).spell program []
+
 -- the one spelling of a memory program
 abbrev pub spelling_of : MemProgram → List ℕ
-spelling_of program = file.spell program []
+spelling_of program = spelling_in version.Second program
+
+-- its spelling in the first version
+abbrev pub spelling_first_of : MemProgram → List ℕ
+spelling_first_of program = spelling_in version.First program
 
 -- a value that has nothing behind it
 abbrev pub alone : {A : Type 0} → A → Rest → Result A FileFault
@@ -191,9 +226,17 @@ abbrev pub ended : {A : Type 0} → Result (A × Rest) FileFault → Result A Fi
 ended (Ok x) = alone x.0 x.1
 ended (Err fault) = Err fault
 
--- The memory program that the bytes of a file spell, or the first fault in their order. That there are too many
--- bytes comes before all others.
-unfoldable pub read_of : List ℕ → Result MemProgram FileFault
-read_of bytes =
-    if nat_lt most_bytes (length bytes) then Err faults.Long
-    else ended (file.read (record { bytes = bytes; total = length bytes }))
+-- The memory program that the bytes of a file of this version spell, or the first fault in their order. That there are too
+-- many bytes comes before all others.
+unfoldable pub read_in : Version → List ℕ → Result MemProgram FileFault
+read_in v bytes =
+    if nat_lt (most_in v) (length bytes) then Err faults.Long
+    else ended ((file v).read (record { bytes = bytes; total = length bytes }))
+
+-- what the bytes of a file say
+abbrev pub read_of : List ℕ → Result MemProgram FileFault
+read_of bytes = read_in version.Second bytes
+
+-- what the bytes of a file of the first version say
+abbrev pub read_first_of : List ℕ → Result MemProgram FileFault
+read_first_of bytes = read_in version.First bytes

@@ -1,12 +1,14 @@
 -- The rules that a field may have, as tests. Those on instructions test the facts of the one table of opcodes.
-use Rattle.std.specs.Prelude.{◌≡◌, ◌≤◌, ◌<◌, ◌+◌, ◌*◌, ◌^◌, ◌&&◌, ℕ, [], ◌∷◌, Bool, true, false, not, nat_lt, nat_le, ◌==◌, if◌then◌else◌}
+use Rattle.std.specs.Prelude.{◌≡◌, ◌≤◌, ◌<◌, ◌+◌, ◌-◌, ◌*◌, ◌^◌, ◌&&◌, ℕ, [], ◌∷◌, Bool, true, false, not, nat_lt, nat_le, ◌==◌, if◌then◌else◌}
 use Rattle.std.specs.Bool.{Decides}
 use Rattle.std.specs.List.{list_any}
 use Rattle.std.proofs.lemmas.Bool.{leb-true, le-leb, ltb-true, lt-ltb}
 use Rattle.std.proofs.Common.{refl, sym, true≢false, eqb-true, eq-eqb}
 use Rattle.mage_instr.specs.declared.op.Op.{Op}
 use Rattle.mage_instr.specs.declared.op.Op.TheVariants as op
+use Rattle.mage_instr.specs.Limits.{most_slots, most_wires}
 use Rattle.mage_instr.specs.Opcodes.{greatest_width, most_workers, ImmOk, WidthOk}
+use Rattle.mage_directives.specs.Directives.{most_pages}
 
 -- a number from `least` to `most`
 abbrev pub within : (least most : ℕ) → ℕ → Bool
@@ -16,13 +18,21 @@ within least most n = nat_le least n && nat_le n most
 abbrev pub most_if : (there : Bool) (most : ℕ) → ℕ
 most_if there most = if there then most else 0
 
+-- the greatest number of two bytes, which a frame, an offset or a slot may have
+abbrev pub most_of_two_bytes : ℕ
+most_of_two_bytes = 65535
+
+-- the greatest page: each is below the most pages
+abbrev pub greatest_page : ℕ
+greatest_page = most_pages - 1
+
 -- a power of two from 64 to 65,536
 abbrev pub is_page : ℕ → Bool
 is_page n = list_any (λ k. 2 ^ k == n) (6 ∷ 7 ∷ 8 ∷ 9 ∷ 10 ∷ 11 ∷ 12 ∷ 13 ∷ 14 ∷ 15 ∷ 16 ∷ [])
 
--- at most 4,096 slots, which with the frames hold at most 4,194,304 wires
+-- not too many slots, and they and the frames don't hold too many wires
 abbrev pub is_buffer : (page frames : ℕ) → ℕ → Bool
-is_buffer page frames n = nat_le n 4096 && nat_le ((frames + n) * page) 4194304
+is_buffer page frames n = nat_le n most_slots && nat_le ((frames + n) * page) most_wires
 
 -- a test of a fact, which passes exactly where the fact holds
 pub record Test (P : Type 0) : Type 0 where

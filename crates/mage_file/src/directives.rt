@@ -1,7 +1,9 @@
 // Reading directives.
-ghost use Rattle.std.specs.Prelude.{◌≡◌};
-ghost use Rattle.mage_file.specs.Formats.{Reads, listed};
-ghost use Rattle.mage_file.specs.Grammar.{row, code, directive_of, directive, section};
+ghost use Rattle.std.specs.Prelude.{◌≡◌, ◌≤◌, IfOk};
+ghost use Rattle.mage_directives.specs.Directives.{most_pages};
+ghost use Rattle.mage_file.specs.Stores.{store_above};
+ghost use Rattle.mage_file.specs.Formats.{Gives, Reads, rest_of, listed};
+ghost use Rattle.mage_file.specs.Grammar.{row, code, directive_of, directive, store, section};
 
 use crate::fault::FileFault;
 use crate::fields::{most_page, most_u16};
@@ -10,12 +12,14 @@ use crate::kind::{Kind, Row};
 use crate::kinds::with_code;
 use crate::left::Left;
 use crate::section::Section;
+use crate::stores::pages_in;
+use crate::version::Version;
 use mage_instr::Directive;
 use sqlite_items::Items;
 use std::alloc::Global;
 
 // The most pages of a store.
-const MOST_PAGES: u32 = 2_000_000;
+pub const MOST_PAGES: u32 = 2_000_000;
 
 // A directive other than `Do` behind its code, with the fields that are there.
 #[tactic(auto, unfolding(crate::specs::Formats::chain, crate::specs::Formats::done, crate::specs::Grammar::row))]
@@ -92,7 +96,7 @@ fn directive(left: Left<'_>, workers: u16, own: u16) -> Result<(Directive, Left<
 }
 
 // So many directives.
-fn directives(
+fn list_of(
     alloc: Global,
     left: Left<'_>,
     workers: u16,
@@ -111,18 +115,47 @@ fn directives(
     Ok((list, rest))
 }
 
-// The part of one of so many workers: how many pages its store has, how many directives it has, and these.
+// So many directives from the front of what is left of an input of so many bytes. None of them names a page that is too
+// great.
+fn directives(
+    alloc: Global,
+    bytes: &[u8],
+    total: u64,
+    workers: u16,
+    own: u16,
+    count: u32,
+) -> Result<(Items<Directive>, Left<'_>), FileFault>
+    ensures exact { Gives (λ x. (x.0, rest_of x.1)) result ((listed count (λ _. directive workers own)).read (record { bytes = bytes.now; total = total })) }
+    ensures small { IfOk result (λ x. store_above x.0 ≤ most_pages) }
+{
+    list_of(alloc, Left { bytes, total }, workers, own, count)
+}
+
+// What a file tells of the pages of a store.
+#[tactic(auto, unfolding(crate::specs::Formats::done, crate::specs::Grammar::store))]
+fn store(left: Left<'_>, version: Version) -> Result<(u32, Left<'_>), FileFault>
+    ensures { Reads (store version) result left.entry }
+{
+    match version {
+        Version::First => Ok((0, left)),
+        Version::Second => left.u32_within(0, MOST_PAGES),
+    }
+}
+
+// The part of one of so many workers: what is told of the pages of its store, how many directives it has, and these.
 #[tactic(auto, unfolding(crate::specs::Formats::chain, crate::specs::Formats::done, crate::specs::Formats::number, crate::specs::Grammar::section))]
 pub fn section(
     alloc: Global,
     left: Left<'_>,
+    version: Version,
     workers: u16,
     own: u16,
 ) -> Result<(Section, Left<'_>), FileFault>
-    ensures { Reads (section workers own) result left.entry }
+    ensures { Reads (section version workers own) result left.entry }
 {
-    let (pages, left) = left.u32_within(0, MOST_PAGES)?;
+    let (told, left) = store(left, version)?;
     let (count, left) = left.take_u32()?;
-    let (directives, left) = directives(alloc, left, workers, own, count)?;
+    let (directives, left) = directives(alloc, left.bytes, left.total, workers, own, count)?;
+    let pages = pages_in(version, told, directives.as_slice());
     Ok((Section { pages, directives }, left))
 }

@@ -2,25 +2,26 @@
 ghost use Rattle.std.specs.Prelude.{◌≡◌, length};
 ghost use Rattle.std.specs.Int.{w8, w16, w32, w64};
 ghost use Rattle.mage_instr.specs.declared.directive.MemProgram.{MemProgram};
-ghost use Rattle.mage_file.specs.Rules.{within, most_if};
+ghost use Rattle.mage_file.specs.Rules.{within, most_if, most_of_two_bytes, greatest_page};
 ghost use Rattle.mage_file.specs.Formats.{Gives, Reads, rest_of, place, number_of, field, text};
 ghost use Rattle.mage_file.specs.Grammar.{alone};
 
+use crate::directives::MOST_PAGES;
 use crate::fault::FileFault;
 use crate::left::Left;
 
 // The most that a field of two bytes may hold, which is 0 where it isn't there.
 pub fn most_u16(there: bool) -> u16
-    ensures { result ≡ most_if there 65535 }
+    ensures { result ≡ most_if there most_of_two_bytes }
 {
     if there { u16::MAX } else { 0 }
 }
 
 // The most that the field of the page may hold, which is 0 where it isn't there.
 pub fn most_page(there: bool) -> u32
-    ensures { result ≡ most_if there 1999999 }
+    ensures { result ≡ most_if there greatest_page }
 {
-    if there { 1_999_999 } else { 0 }
+    if there { MOST_PAGES - 1 } else { 0 }
 }
 
 impl<'a> Left<'a> {

@@ -2,6 +2,7 @@
 ghost use Rattle.std.specs.Prelude.{◌≡◌, ◌≤◌, true, length, IfOk};
 ghost use Rattle.std.specs.Int.{w8, w16, w32, w64};
 ghost use Rattle.mage_directives.specs.Directives.{IsMemProgram};
+ghost use Rattle.mage_file.specs.declared.version.Version.TheVariants as version;
 ghost use Rattle.mage_file.specs.Codes.{kind_of};
 ghost use Rattle.mage_file.specs.Formats.{Adds, number, listed};
 ghost use Rattle.mage_file.specs.Grammar as grammar;
@@ -63,7 +64,7 @@ fn put_u64(out: &mut Vec<u8>, value: u64) -> Result<(), Memory>
 
 // The first fields, with how many workers there are.
 fn put_head(out: &mut Vec<u8>, workers: usize) -> Result<(), Memory>
-    ensures { Adds grammar.head workers result
+    ensures { Adds (grammar.head version.Second) workers result
         out.old.items out.new.items }
 {
     out.extend_from_slice(b"MAGEMP02")?;
@@ -90,7 +91,7 @@ fn put_sections(
     workers: &[Items<Directive>],
 ) -> Result<(), Memory>
     requires { length stores.now ≡ length workers.now }
-    ensures { Adds (listed 0 (λ _. grammar.section 0 0)) (grammar.sections_of stores.now workers.now) result
+    ensures { Adds (listed 0 (λ _. grammar.section version.Second 0 0)) (grammar.sections_of stores.now workers.now) result
         out.old.items out.new.items }
 {
     for worker in 0..workers.len() {
@@ -102,7 +103,7 @@ fn put_sections(
 // How many pages a worker's store has, how many directives the worker has, and these. The bytes are the same in each
 // worker's part.
 fn put_section(out: &mut Vec<u8>, pages: u32, directives: &[Directive]) -> Result<(), Memory>
-    ensures { Adds (grammar.section 0 0) (record { pages = pages; directives = directives.now }) result
+    ensures { Adds (grammar.section version.Second 0 0) (record { pages = pages; directives = directives.now }) result
         out.old.items out.new.items }
 {
     put_u32(out, pages)?;

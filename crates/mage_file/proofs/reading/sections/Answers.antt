@@ -14,7 +14,7 @@ loop-own-init c =
     let all : c.args.workers - 0 ≡ c.args.workers = omega arith in (
       [],
       record { pages = c.new-stores.ensures; directives = c.new-lists.ensures },
-      rw all (nothing_before (read_all (section c.args.workers) 0 c.args.workers (rest_of c.args.left))),
+      rw all (nothing_before (read_all (section c.args.version c.args.workers) 0 c.args.workers (rest_of c.args.left))),
     )
 
 pub loop-own-preserved : goal.loop-own-preserved
@@ -26,8 +26,8 @@ loop-own-preserved c =
     rw (stored, listed) (
       i.0 ++ first ∷ [],
       split_on i.0 c.loop-own.stores c.loop-own.lists first i.1,
-      reads_on Section (section c.args.workers) c.args.workers c.loop-own.own i.0 (rest_of c.loop-own.rest)
-          (read_all (section c.args.workers) 0 c.args.workers (rest_of c.args.left)) i.2
+      reads_on Section (section c.args.version c.args.workers) c.args.workers c.loop-own.own i.0 (rest_of c.loop-own.rest)
+          (read_all (section c.args.version c.args.workers) 0 c.args.workers (rest_of c.args.left)) i.2
           first (rest_of c.in_ok-section.after) c.loop-own-test.true c.in_ok-section.ensures,
     )
 
@@ -35,16 +35,16 @@ pub returns-in_err-section : goal.returns-in_err-section
 returns-in_err-section c =
     let i = c.loop-own.invariant in
     let p = err_from_is_err_and c.from_residual.result c.from_residual.ensures.1 in
-    rw (p.1, p.2) (program_fails c.args.limits c.in_err-section.field-0.0 (read_all (section c.args.workers) 0 c.args.workers (rest_of c.args.left))
-    (reading_fails Section (section c.args.workers) c.args.workers c.loop-own.own i.0 (rest_of c.loop-own.rest)
-    (read_all (section c.args.workers) 0 c.args.workers (rest_of c.args.left)) i.2
+    rw (p.1, p.2) (program_fails c.args.limits c.in_err-section.field-0.0 (read_all (section c.args.version c.args.workers) 0 c.args.workers (rest_of c.args.left))
+    (reading_fails Section (section c.args.version c.args.workers) c.args.workers c.loop-own.own i.0 (rest_of c.loop-own.rest)
+    (read_all (section c.args.version c.args.workers) 0 c.args.workers (rest_of c.args.left)) i.2
     c.in_err-section.field-0.0 c.loop-own-test.true c.in_err-section.ensures))
 
 pub returns : goal.returns
 returns c =
     let i = c.loop-own.invariant in
-    let total = read_all (section c.args.workers) 0 c.args.workers (rest_of c.args.left) in
+    let total = read_all (section c.args.version c.args.workers) 0 c.args.workers (rest_of c.args.left) in
     let all : total ≡ Ok (i.0, rest_of c.loop-own.rest) =
-    reads_all Section (section c.args.workers) c.args.workers c.loop-own.own i.0 (rest_of c.loop-own.rest) total i.2 c.loop-own-test.false in
+    reads_all Section (section c.args.version c.args.workers) c.args.workers c.loop-own.own i.0 (rest_of c.loop-own.rest) total i.2 c.loop-own-test.false in
     ap (λ (z : Result (List Section × Rest) FileFault). after z (makes c.args.limits)) all
     ∙ ap (λ (m : MemProgram). Ok (m, rest_of c.loop-own.rest)) (program_is c.args.limits i.0 c.loop-own.stores c.loop-own.lists i.1)
