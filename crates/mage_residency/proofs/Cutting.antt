@@ -110,7 +110,7 @@ each_set slots does slot x within each i = ⊎_elim here there (cases_eq slot i)
 new_or_old : (slots : List Slot) (slot : ℕ) (x y : Slot) (i : ℕ) → slot < length slots → get_or (set slots slot x) i Idle ≡ y → ((slot ≡ i) × (x ≡ y)) ⊎ ((slot ≢ i) × (get_or slots i Idle ≡ y))
 new_or_old slots slot x y i within is = ⊎_elim (λ e. inl (e, sym (get_or-set_same slots slot x Idle within) ∙ ap (λ n. get_or (set slots slot x) n Idle) e ∙ is)) (λ ne. inr (ne, sym (get_or-set_other slots slot i x Idle (λ e. ne (sym e))) ∙ is)) (cases_eq slot i)
 
-abbrev AreApart : (ℕ → Doing) → Type 0
+abbrev pub AreApart : (ℕ → Doing) → Type 0
 AreApart does = (i j q : ℕ) → is_for (does i) q ≡ true → is_for (does j) q ≡ true → i ≡ j
 
 apart_put : (does : ℕ → Doing) (slot : ℕ) (y : Doing) → ((q : ℕ) → is_for y q ≡ true → (other : ℕ) → is_for (does other) q ≡ false) → AreApart does → AreApart (put slot y does)
@@ -139,18 +139,18 @@ unwritten does slot y q differs none i is = ⊎_elim (λ e. differs (ap does e �
 
 module _ (buffer store wires : ℕ) (instrs : List Instr) where
   -- The walk with slots stands beside the plain one. What a slot writes the plain walk has written already.
-  record IsCut (flight : Flight) (s p : State) : Type 0 where
-    frames : s.frames ≡ p.frames
-    next : s.next ≡ p.next
-    slots : length s.slots ≡ buffer
-    each : (i : ℕ) → doing (get_or s.slots i Idle) ≡ flight.does i
-    stored : (q : ℕ) → is_some (s.pages q) ≡ flight.stored q
-    written : (i q : ℕ) (content : Content) → get_or s.slots i Idle ≡ Writes q content → p.pages q ≡ Some content
-    others : (q : ℕ) → ((i : ℕ) → flight.does i ≢ state.Writes q) → p.pages q ≡ s.pages q
-    apart : AreApart flight.does
+  pub record IsCut (flight : Flight) (s p : State) : Type 0 where
+    pub frames : s.frames ≡ p.frames
+    pub next : s.next ≡ p.next
+    pub slots : length s.slots ≡ buffer
+    pub each : (i : ℕ) → doing (get_or s.slots i Idle) ≡ flight.does i
+    pub stored : (q : ℕ) → is_some (s.pages q) ≡ flight.stored q
+    pub written : (i q : ℕ) (content : Content) → get_or s.slots i Idle ≡ Writes q content → p.pages q ≡ Some content
+    pub others : (q : ℕ) → ((i : ℕ) → flight.does i ≢ state.Writes q) → p.pages q ≡ s.pages q
+    pub apart : AreApart flight.does
 
   -- one directive
-  abbrev Goes : Directive → Flight → (s p : State) → Type 0
+  abbrev pub Goes : Directive → Flight → (s p : State) → Type 0
   Goes one flight s p = (after : State) × (step_of instrs wires store s one ≡ Some after) × IsCut (flight_after one flight) after p
 
   framed : (flight : Flight) (s p : State) (f : ℕ) (content : Content) → IsCut flight s p → IsCut flight (with_frame f content s) (with_frame f content p)
@@ -341,7 +341,7 @@ module _ (buffer store wires : ℕ) (instrs : List Instr) where
   one_entry None after h = h
   one_entry (Some x) after h = h
 
-  goes : (one : Directive) (flight : Flight) (s p after : State) → IsCut flight s p → IsInTurn buffer flight one → IsBelow store one → all_done instrs wires p (plain_entry flight one) ≡ Some after → Goes one flight s after
+  pub goes : (one : Directive) (flight : Flight) (s p after : State) → IsCut flight s p → IsInTurn buffer flight one → IsBelow store one → all_done instrs wires p (plain_entry flight one) ≡ Some after → Goes one flight s after
   goes (directive.Fresh f page) flight s p after c turn below h = goes_fresh flight s p after f page c (one_entry (fresh f p) after h)
   goes (directive.IssueIn slot page) flight s p after c turn below h = subst (Goes (directive.IssueIn slot page) flight s) (same_Some p after h) (goes_issue_in flight s p slot page c turn.0 below turn.1)
   goes (directive.FinishIn slot frame) flight s p after c turn below h =
@@ -387,17 +387,22 @@ some_ends : (o : Option State) (n : ℕ) → IsSomeAnd o (λ end. end.next ≡ n
 some_ends None n h = absurd h
 some_ends (Some end) n h = (end, refl, h)
 
+-- at first the two walks stand beside one another
+pub cut_at_first : (frames buffer store wires : ℕ) (instrs : List Instr) → IsCut buffer store wires instrs at_rest (start frames buffer) (start frames 0)
+cut_at_first frames buffer store wires instrs = record {
+  frames = refl;
+  next = refl;
+  slots = length-replicate buffer Idle;
+  each = λ i. ap doing (get_or_none frames buffer i);
+  stored = λ q. refl;
+  written = λ i q content is. absurd (idle_not_writes q content (sym (get_or_none frames buffer i) ∙ is));
+  others = λ q none. refl;
+  apart = λ i j q for_i for_j. absurd (false≢true for_i);
+}
+
 pub cut_transfers_carry : CutTransfersCarry
 unfolding break_of
 cut_transfers_carry limits store instrs part turns below carries =
     let end = some_ends (all_done instrs limits.page (start limits.frames 0) (plainly at_rest part)) (length instrs) carries in
-    walks_beside limits.buffer store limits.page instrs part 0 (length part) at_rest (start limits.frames limits.buffer) (start limits.frames 0) end.0 (record {
-      frames = refl;
-      next = refl;
-      slots = length-replicate limits.buffer Idle;
-      each = λ i. ap doing (get_or_none limits.frames limits.buffer i);
-      stored = λ q. refl;
-      written = λ i q content is. absurd (idle_not_writes q content (sym (get_or_none limits.frames limits.buffer i) ∙ is));
-      others = λ q none. refl;
-      apart = λ i j q for_i for_j. absurd (false≢true for_i);
-    }) turns below end.1 end.2
+    walks_beside limits.buffer store limits.page instrs part 0 (length part) at_rest (start limits.frames limits.buffer) (start limits.frames 0) end.0
+    (cut_at_first limits.frames limits.buffer store limits.page instrs) turns below end.1 end.2

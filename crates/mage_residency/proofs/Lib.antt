@@ -9,3 +9,4 @@ pub mod Carrying
 pub mod Cutting
 pub mod Beside
 pub mod Renaming
+pub mod Joining

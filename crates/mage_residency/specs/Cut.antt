@@ -1,4 +1,4 @@
--- That transfers cut in two, from the directive that issues one to the one that finishes it, carry what they carry at once.
+-- That transfers cut in two, from the directive that issues one to the one that finishes it, carry just what they carry at once.
 use Rattle.std.specs.Prelude.{◌≡◌, ℕ, List, None}
 use Rattle.mage_instr.specs.declared.instr.Instr.{Instr}
 use Rattle.mage_instr.specs.declared.replaced.Limits.{Limits}
@@ -17,3 +17,12 @@ CutTransfersCarry =
     → AreInTurn limits.buffer at_rest part → AreBelow store part
     → CarriesPlainly limits.frames limits.page instrs (plainly at_rest part)
     → break_of limits store instrs part ≡ None
+
+-- And where such directives break no rule of the walk with slots, and leave nothing over, they carry the worker's instructions
+-- with transfers done at once too.
+abbrev pub TransfersAtOnceCarry : Type 0
+TransfersAtOnceCarry =
+    (limits : Limits) (store : ℕ) (instrs : List Instr) (part : List Directive)
+    → AreBelow store part → AreInTurn limits.buffer at_rest part
+    → break_of limits store instrs part ≡ None
+    → CarriesPlainly limits.frames limits.page instrs (plainly at_rest part)

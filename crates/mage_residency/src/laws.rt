@@ -1,6 +1,6 @@
 // What placement and replacement come to.
 ghost use Rattle.mage_residency.specs.Carried.{RuleCarries};
-ghost use Rattle.mage_residency.specs.Cut.{CutTransfersCarry};
+ghost use Rattle.mage_residency.specs.Cut.{CutTransfersCarry, TransfersAtOnceCarry};
 ghost use Rattle.mage_residency.specs.Renamed.{NamesDontMatter};
 
 /// The list that the rule of replacement gives for the places and the trace of a list of instructions carries these: it can be
@@ -14,6 +14,12 @@ pub fn placed_and_replaced_carries()
 /// read when it is finished, carry the worker's instructions, they break no rule of the walk with slots, and leave nothing over.
 pub fn cut_transfers_carry()
     ensures { CutTransfersCarry }
+{}
+
+/// And where such directives break no rule of the walk with slots, and leave nothing over, they carry the worker's instructions
+/// with each write done when it is issued and each read when it is finished.
+pub fn transfers_at_once_carry()
+    ensures { TransfersAtOnceCarry }
 {}
 
 /// A list whose saves and loads name pages of a store in place of the pages carries instructions exactly where the list with the

@@ -4,4 +4,7 @@
 
 mod laws;
 
-pub use laws::{cut_transfers_carry, names_of_pages_dont_matter, placed_and_replaced_carries};
+pub use laws::{
+    cut_transfers_carry, names_of_pages_dont_matter, placed_and_replaced_carries,
+    transfers_at_once_carry,
+};
