@@ -1,0 +1,5 @@
+pub mod Turned
+pub mod Renaming
+pub mod Ranges
+pub mod Passed
+pub mod Whole

@@ -1,0 +1,11 @@
+use Rattle.std.proofs.Common.{◌≡◌, ◌∙◌, ap, ap₂, ℕ, List, [], ◌∷◌, ◌++◌}
+use Rattle.mage_instr.specs.declared.directive.Directive.{Directive}
+use Rattle.mage_verify.proofs.ProgramLiterals.{one_worker}
+use Rattle.mage_rehome.proofs.rehoming.tests.one_worker.Goals as goal
+
+pub returns : goal.returns
+returns c =
+    let store : c.push.new.self ≡ c.args.pages ∷ [] = c.in_ok-push.ensures.ok ∙ ap (λ (ns : List ℕ). ns ++ c.args.pages ∷ []) c.new-stores.ensures in
+    let are : c.push-2.new.self ≡ c.args.directives.now ∷ [] =
+    c.in_ok-push-2.ensures.ok ∙ ap₂ (λ (ws : List (List Directive)) (x : List Directive). ws ++ x ∷ []) c.new-workers.ensures c.in_ok-from_slice.ensures in
+    rw (store, are) (one_worker c.limits.result c.args.pages c.args.directives.now c.requires.pages c.limits.ensures c.requires.count c.requires.fields)

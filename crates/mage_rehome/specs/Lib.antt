@@ -1,0 +1,2 @@
+pub mod Rehomed
+pub mod Earlier
