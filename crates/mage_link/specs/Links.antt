@@ -1,5 +1,5 @@
 -- What a port of links tells, and what its calls ask for and leave.
-use Rattle.std.specs.Prelude.{◌≡◌, ◌≢◌, ◌<◌, ℕ, List, [], Bool, IsTrue, Option, None, Some, Result, Ok, Err}
+use Rattle.std.specs.Prelude.{◌≡◌, ◌≢◌, ◌<◌, ◌+◌, ℕ, List, [], length, Bool, IsTrue, Option, None, Some, IfSome, Result, Ok, Err}
 use Rattle.mage_base.specs.Faults.{next_count}
 use Rattle.mage_network.specs.Network.{put_link, appended}
 use Rattle.mage_link.specs.declared.wire.Wire16.{Wire16}
@@ -19,6 +19,9 @@ pub record LinkTold : Type 0 where
   pub received : Wires
   -- how often an answer was that a link is full, or that none of its wires is there
   pub waits : ℕ
+  -- how many wires a link holds at most, where every wire of each link passes through this port; no
+  -- call changes it
+  pub room : Option ℕ
 
 -- a worker may use a link with another one, by sending or by receiving
 pub record CanUse (port : LinkTold) (me other : ℕ) : Type 0 where
@@ -52,13 +55,23 @@ after_receive port me from wire = record port { received = with_wire port.receiv
 abbrev pub after_wait : LinkTold → LinkTold
 after_wait port = record port { waits = next_count port.waits }
 
--- What an answer of `try_send` leaves: the wire was sent, or nothing was.
+-- where the port has all of the wires: this link holds as many as it has room for
+abbrev pub IsFull : LinkTold → (source target : ℕ) → Type 0
+IsFull port source target = IfSome port.room
+    (λ room. length (port.sent source target) ≡ length (port.received source target) + room)
+
+-- the same of a link that holds none
+abbrev pub IsDrained : LinkTold → (source target : ℕ) → Type 0
+IsDrained port source target =
+    IfSome port.room (λ room. port.sent source target ≡ port.received source target)
+
+-- What an answer of `try_send` leaves: the wire was sent, or the link was full and nothing was.
 abbrev pub Sends : {T E : Type 0} → (before after : LinkTold) → (me to : ℕ) → (wire : List ℕ) →
     Result T E → Type 0
 Sends before after me to wire (Ok _) = after ≡ after_send before me to wire
-Sends before after me to wire (Err _) = after ≡ after_wait before
+Sends before after me to wire (Err _) = (after ≡ after_wait before) × IsFull before me to
 
--- What an answer of `try_recv` leaves: this wire was received, or none was.
+-- What an answer of `try_recv` leaves: this wire was received, or the link was empty and none was.
 abbrev pub Receives : (before after : LinkTold) → (me from : ℕ) → Option Wire16 → Type 0
 Receives before after me from (Some wire) = after ≡ after_receive before me from wire.bytes
-Receives before after me from None = after ≡ after_wait before
+Receives before after me from None = (after ≡ after_wait before) × IsDrained before from me

@@ -63,6 +63,7 @@ queue_told queues = record {
   sent = λ source target. received_from queues source target ++ lies_in queues source target;
   received = received_from queues;
   waits = queues.waits;
+  room = Some queues.capacity;
 }
 
 -- ---- calls
