@@ -58,6 +58,10 @@ abbrev pub target_of : Directive → Option ℕ
 target_of (entry.Do job) = sent_by job.op job.imm
 target_of _ = None
 
+abbrev pub target_at : Option Directive → Option ℕ
+target_at (Some directive) = target_of directive
+target_at None = None
+
 -- the worker from which it receives
 abbrev pub received_by : Op → (imm : ℕ) → Option ℕ
 received_by op.Recv imm = Some imm
@@ -66,6 +70,10 @@ received_by _ imm = None
 abbrev pub source_of : Directive → Option ℕ
 source_of (entry.Do job) = received_by job.op job.imm
 source_of _ = None
+
+abbrev pub source_at : Option Directive → Option ℕ
+source_at (Some directive) = source_of directive
+source_at None = None
 
 -- The part's worker may use the port of links, and each worker that the part names is there.
 pub record Connects (link : LinkTold) (part : WorkerPart) : Type 0 where

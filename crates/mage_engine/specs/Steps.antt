@@ -1,5 +1,5 @@
 -- What a step of a machine does.
-use Rattle.std.specs.Prelude.{◌≡◌, ◌==◌, ℕ, suc, List, [], ◌∷◌, if◌then◌else◌, IsTrue, Option, None, Some, IfSome, Result, Ok, Err}
+use Rattle.std.specs.Prelude.{◌≡◌, ◌==◌, ℕ, suc, List, [], ◌∷◌, if◌then◌else◌, IsTrue, Option, None, Some, Result, Ok, Err}
 use Rattle.mage_base.specs.Store.{Transfer, Answered, Wrote}
 use Rattle.mage_instr.specs.declared.directive.Directive.{Directive}
 use Rattle.mage_instr.specs.declared.directive.Directive.TheVariants as entry
@@ -15,7 +15,7 @@ use Rattle.mage_driver.specs.declared.standing.Standing.{Standing}
 use Rattle.mage_driver.specs.declared.standing.Standing.TheVariants as standing
 use Rattle.mage_driver.specs.Rules.{Rules}
 use Rattle.mage_driver.specs.Calls.{Call, Fell}
-use Rattle.mage_link.specs.Links.{LinkTold, after_send, after_receive, after_wait}
+use Rattle.mage_link.specs.Links.{LinkTold, after_send, after_receive, after_wait, IsFull, IsDrained}
 use Rattle.mage_port.specs.Port.{PortTold, Transfers, AskedRead, AskedWrite, slot_state, with_state, with_transfer, Brings, Saves, Fails, Spoils, IsUnderWay}
 use Rattle.mage_steps.specs.Engines.{Engine, Next, doing, opened}
 use Rattle.mage_engine.specs.declared.turn.Kind.{Kind}
@@ -25,7 +25,7 @@ use Rattle.mage_engine.specs.declared.turn.Turn.TheVariants as turn
 use Rattle.mage_engine.specs.declared.turn.Why.{Why}
 use Rattle.mage_engine.specs.declared.turn.Why.TheVariants as why
 use Rattle.mage_engine.specs.Seen.{Seen, directive_at, IsEnded, engine_with, worker_with, HoldSame}
-use Rattle.mage_engine.specs.Ready.{target_of, source_of, wires_of}
+use Rattle.mage_engine.specs.Ready.{target_at, source_at, wires_of}
 
 -- ---- the kind of a step
 
@@ -161,17 +161,18 @@ module _ {W : Type 0} (rules : Rules W) where
     }
     pub event : IsTrue old.driver.told → IsEvent old new before after
 
-  -- The machine waits: only a count of waits changed, and rose.
+  -- The machine waits: only a count of waits changed, and rose. The link to which it sends is full, or that from which it
+  -- receives is empty.
   abbrev pub IsWait : (old new : Seen rules.State) → (before after : LinkTold) → Why → Type 0
   IsWait old new before after (why.Slot slot) =
       (finished_by (directive_at old) ≡ Some slot) × (new ≡ record old { port = new.port })
       × IsUnderWay old.port new.port × (after ≡ before)
   IsWait old new before after (why.Full to) =
-      IfSome (directive_at old) (λ directive. target_of directive ≡ Some to) × (new ≡ old)
-      × (after ≡ after_wait before)
+      (target_at (directive_at old) ≡ Some to) × (new ≡ old) × (after ≡ after_wait before)
+      × IsFull before old.part.worker to
   IsWait old new before after (why.Empty from) =
-      IfSome (directive_at old) (λ directive. source_of directive ≡ Some from) × (new ≡ old)
-      × (after ≡ after_wait before)
+      (source_at (directive_at old) ≡ Some from) × (new ≡ old) × (after ≡ after_wait before)
+      × IsDrained before from old.part.worker
 
   -- the calls that the driver gets next
   abbrev pub calls_of : Next rules → List (Call rules.State W)
