@@ -47,19 +47,19 @@ turns_append next [] ys ws = refl
 turns_append next (x ∷ xs) ys ws = turns_append next xs ys (joint next x ws)
 
 -- beside its workers a program has no directives
-past_workers : {X : Type 0} (xss : List (List X)) (n : ℕ) → length xss ≤ n → slice_index_or xss n [] ≡ []
+pub past_workers : {X : Type 0} (xss : List (List X)) (n : ℕ) → length xss ≤ n → slice_index_or xss n [] ≡ []
 past_workers [] zero past = refl
 past_workers [] (suc n) past = refl
 past_workers (xs ∷ xss) zero past = absurd (omega arith)
 past_workers (xs ∷ xss) (suc n) past = past_workers xss n (omega arith)
 
-past_end : {X : Type 0} (xs : List X) (d : ℕ) → length xs ≤ d → slice_get xs d ≡ None
+pub past_end : {X : Type 0} (xs : List X) (d : ℕ) → length xs ≤ d → slice_get xs d ≡ None
 past_end [] zero past = refl
 past_end [] (suc d) past = refl
 past_end (x ∷ xs) zero past = absurd (omega arith)
 past_end (x ∷ xs) (suc d) past = past_end xs d (omega arith)
 
-in_list : {X : Type 0} (xss : List (List X)) (n : ℕ) (d : ℕ) (x : X) → slice_get (slice_index_or xss n []) d ≡ Some x →
+pub in_list : {X : Type 0} (xss : List (List X)) (n : ℕ) (d : ℕ) (x : X) → slice_get (slice_index_or xss n []) d ≡ Some x →
     slice_get xss n ≡ Some (slice_index_or xss n [])
 in_list [] zero zero x e = absurd cc
 in_list [] zero (suc d) x e = absurd cc
@@ -68,12 +68,12 @@ in_list [] (suc n) (suc d) x e = absurd cc
 in_list (xs ∷ xss) zero d x e = refl
 in_list (xs ∷ xss) (suc n) d x e = in_list xss n d x e
 
-directives_are : (plan : MemProgram) (n : ℕ) (workers : List (List Directive)) →
+pub directives_are : (plan : MemProgram) (n : ℕ) (workers : List (List Directive)) →
     map (λ part. part.directives) (parts_from plan.limits plan.stores n workers) ≡ workers
 directives_are plan n [] = refl
 directives_are plan n (directives ∷ workers) = ap (λ xs. directives ∷ xs) (directives_are plan (n + 1) workers)
 
-some_width : (workers own : ℕ) (job : Job) → job.op ≡ op.Send → IsDirective workers own (entry.Do job) → 1 ≤ job.width
+pub some_width : (workers own : ℕ) (job : Job) → job.op ≡ op.Send → IsDirective workers own (entry.Do job) → 1 ≤ job.width
 some_width workers own job is_send h = sent_width job.op job.width job.imm is_send h.width
   where
     sent_width : (o : Op) (width imm : ℕ) → o ≡ op.Send → WidthOk o width imm → 1 ≤ width
@@ -381,7 +381,7 @@ module _ {W : Type 0} (rules : Rules W) (plan : MemProgram) (drivers : ℕ → r
     place : (n : ℕ) → slice_get (directives_of plan n) (after turns n).state.engine.place ≡ None
     finished : (n : ℕ) → (n < from) ⊎ (length plan.workers ≤ n) → (after turns n).state.engine.is_finished ≡ true
 
-  ended_act : (n : ℕ) (c : Core') (b : Bool) → slice_get (directives_of plan n) c.engine.place ≡ None → c.engine.is_finished ≡ b →
+  pub ended_act : (n : ℕ) (c : Core') (b : Bool) → slice_get (directives_of plan n) c.engine.place ≡ None → c.engine.is_finished ≡ b →
       core_act rules plan n c ≡ act_of {L = Call rules.State W} {W = List ℕ}
       (cond b Stops (Moves (call_of rules c.engine.driver Finish ∷ []) (finishes rules c.engine))) c
   ended_act n c b place done =
