@@ -135,7 +135,7 @@ unfoldable pub store : Version → Format ℕ
 store version.First = done 0
 store version.Second = field w32 (within 0 most_pages)
 
--- the number of pages that is told; 0 stands for none
+-- the number of pages that is told, for which 0 stands in the first version
 abbrev pub told : Version → Section → ℕ
 told version.First s = 0
 told version.Second s = s.pages
@@ -166,7 +166,7 @@ limits = do
   ahead ← field w32 (within 0 most_ahead) of (λ (y : Limits). y.ahead)
   done (record { page = page; frames = frames; buffer = buffer; ahead = ahead })
 
--- how a version is called in a file
+-- what a file calls its version
 abbrev pub digits : Version → List ℕ
 digits version.First = codes "01"
 digits version.Second = codes "02"
@@ -198,10 +198,11 @@ file v = do
 abbrev pub most_bytes : ℕ
 most_bytes = 1073741824
 
--- the most bytes of a file of the first version, so that of the second version its program has no file that is too long
+-- the most bytes of a file of the first version: the file of its program in the second is at most 64 bytes longer
 abbrev pub most_first_bytes : ℕ
 most_first_bytes = 1073741760
 
+-- the most bytes of a file of a version
 abbrev pub most_in : Version → ℕ
 most_in version.First = most_first_bytes
 most_in version.Second = most_bytes

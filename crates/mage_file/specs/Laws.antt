@@ -77,10 +77,11 @@ ReadsFirstBack =
 
 -- ---- how long a file is
 
--- the bytes before the parts of the workers, and those of a directive
+-- the bytes before the parts of the workers
 abbrev pub front_bytes : ℕ
 front_bytes = 28
 
+-- the bytes of a directive
 abbrev pub directive_bytes : ℕ
 directive_bytes = 20
 
@@ -93,14 +94,16 @@ part_bytes version.Second = 8
 abbrev pub directives_in : MemProgram → ℕ
 directives_in program = sum_by (λ part. length part) program.workers
 
+-- the bytes of a file of a version
 abbrev pub bytes_in : Version → MemProgram → ℕ
 bytes_in v program = front_bytes + part_bytes v * length program.workers + directive_bytes * directives_in program
 
--- how long a spelling is depends on the numbers of workers and of directives alone
+-- the spellings of a program have so many bytes
 pub record IsSoLong (program : MemProgram) : Type 0 where
   pub first : length (spelling_first_of program) ≡ bytes_in version.First program
   pub second : length (spelling_of program) ≡ bytes_in version.Second program
 
+-- how long a spelling is depends on the numbers of workers and of directives alone, where each worker has a store
 abbrev pub SpellsSoLong : Type 0
 SpellsSoLong = (program : MemProgram) → length program.stores ≡ length program.workers → IsSoLong program
 
