@@ -3,3 +3,4 @@ pub mod Renaming
 pub mod Ranges
 pub mod Passed
 pub mod Whole
+pub mod Faultless

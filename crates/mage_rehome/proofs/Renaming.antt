@@ -37,13 +37,13 @@ module _ (limits : Limits) (store : ℕ) (instrs : List Instr) (part : List Dire
 
 -- ---- all workers
 
-abbrev counts_of : List (List Directive) → List ℕ
+abbrev pub counts_of : List (List Directive) → List ℕ
 counts_of parts = map (λ (part : Homed). part.count) (map homed_of parts)
 
-abbrev lists_of : List (List Directive) → List (List Directive)
+abbrev pub lists_of : List (List Directive) → List (List Directive)
 lists_of parts = map (λ (part : Homed). part.directives) (map homed_of parts)
 
-count_here : (before : List (List Directive)) (part : List Directive) (parts : List (List Directive))
+pub count_here : (before : List (List Directive)) (part : List Directive) (parts : List (List Directive))
     → store_of (counts_of (before ++ part ∷ parts)) (length before) ≡ (homed_of part).count
 count_here [] part parts = refl
 count_here (first ∷ before) part parts = count_here before part parts

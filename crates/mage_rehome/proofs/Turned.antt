@@ -20,16 +20,21 @@ use Rattle.mage_verify.proofs.Tests.{Passes-from_none, none_first, none_second, 
 use Rattle.mage_accepted.proofs.Own.{same_test}
 
 -- what a slot of the verifier does, for the schedule
-abbrev turning : Slot → Turning
+abbrev pub turning : Slot → Turning
 turning does.Idle = state.Idle
 turning (does.Reading page) = state.Reads page
 turning (does.Writing page) = state.Writes page
 
 -- the verifier and the schedule say the same of slots and pages, and no slot behind the buffer is in flight
-record AreTied (buffer : ℕ) (v : State) (flight : Flight) : Type 0 where
-  each : (s : ℕ) → turning (v.slot s) ≡ flight.does s
-  idle : (s : ℕ) → buffer ≤ s → v.slot s ≡ does.Idle
-  stored : (page : ℕ) → v.stored page ≡ flight.stored page
+pub record AreTied (buffer : ℕ) (v : State) (flight : Flight) : Type 0 where
+  pub each : (s : ℕ) → turning (v.slot s) ≡ flight.does s
+  pub idle : (s : ℕ) → buffer ≤ s → v.slot s ≡ does.Idle
+  pub stored : (page : ℕ) → v.stored page ≡ flight.stored page
+
+pub named : (page : ℕ) (x : Slot) → is_for (turning x) page ≡ names page x
+named page does.Idle = refl
+named page (does.Reading p) = same_test p page
+named page (does.Writing p) = same_test p page
 
 -- ---- after a directive
 
@@ -90,14 +95,9 @@ module _ (buffer : ℕ) (v : State) (flight : Flight) (tied : AreTied buffer v f
   -- no slot names a page that stands still
   alone : (page : ℕ) → is_moving buffer v page ≡ false → (other : ℕ) → is_for (flight.does other) page ≡ false
   alone page still other = ap (λ (x : Turning). is_for x page) (sym (tied.each other)) ∙ ⊎_elim
-      (λ lt. named (v.slot other) ∙ none_below buffer (λ s. names page (v.slot s)) still other lt)
+      (λ lt. named page (v.slot other) ∙ none_below buffer (λ s. names page (v.slot s)) still other lt)
       (λ le. ap (λ (x : Slot). is_for (turning x) page) (tied.idle other le))
       (cases_lt other buffer)
-    where
-      named : (x : Slot) → is_for (turning x) page ≡ names page x
-      named does.Idle = refl
-      named (does.Reading p) = same_test p page
-      named (does.Writing p) = same_test p page
 
   free : (slot page : ℕ) → nat_lt slot buffer ≡ true → not (is_in_flight (v.slot slot)) ≡ true → is_moving buffer v page ≡ false
       → IsFree buffer flight slot page
@@ -108,12 +108,12 @@ module _ (buffer : ℕ) (v : State) (flight : Flight) (tied : AreTied buffer v f
   }
 
 -- a directive in turn, and what is tied behind it
-record Turns (limits : Limits) (pages : ℕ) (one : Directive) (v : State) (flight : Flight) : Type 0 where
-  turn : IsInTurn limits.buffer flight one
-  below : IsBelow pages one
-  tied : AreTied limits.buffer (after v one) (flight_after one flight)
+pub record Turns (limits : Limits) (pages : ℕ) (one : Directive) (v : State) (flight : Flight) : Type 0 where
+  pub turn : IsInTurn limits.buffer flight one
+  pub below : IsBelow pages one
+  pub tied : AreTied limits.buffer (after v one) (flight_after one flight)
 
-turns : (limits : Limits) (pages : ℕ) (one : Directive) (v : State) (flight : Flight) → AreTied limits.buffer v flight → IsFine limits v one
+pub turns : (limits : Limits) (pages : ℕ) (one : Directive) (v : State) (flight : Flight) → AreTied limits.buffer v flight → IsFine limits v one
     → has_page pages one ≡ true → Turns limits pages one v flight
 turns limits pages (entry.Fresh frame page) v flight tied fine there = record { turn = tt; below = tt; tied = tied }
 turns limits pages (entry.IssueIn slot page) v flight tied fine there =
@@ -178,8 +178,12 @@ all_turned limits pages worker d v flight (one ∷ part) tied h =
     let rest = all_turned limits pages worker (d + 1) (after v one) (flight_after one flight) part now.tied others in
     record { turns = (now.turn, rest.turns); below = (now.below, rest.below) }
 
+-- at first the verifier and the schedule say the same
+pub tied_at_first : (buffer : ℕ) → AreTied buffer opening at_rest
+tied_at_first buffer = record { each = λ s. refl; idle = λ s le. refl; stored = λ page. refl }
+
 -- where a worker's part has no fault by itself
 pub turned : (limits : Limits) (pages worker : ℕ) (part : List Directive) → fault_from limits pages worker 0 opening part ≡ None
     → AreTurned limits.buffer pages at_rest part
 turned limits pages worker part none =
-    all_turned limits pages worker 0 opening at_rest part (record { each = λ s. refl; idle = λ s le. refl; stored = λ page. refl }) none
+    all_turned limits pages worker 0 opening at_rest part (tied_at_first limits.buffer) none

@@ -6,11 +6,12 @@ use Rattle.mage_instr.specs.declared.replaced.Limits.{Limits}
 use Rattle.mage_sched.specs.Homes.{Homed, empty_store, homed_of}
 use Rattle.mage_schedulable.specs.Planning.{program_of}
 use Rattle.mage_directives.specs.Directives.{IsMemProgram}
-use Rattle.mage_verify.specs.Faults.{fault_in}
+use Rattle.mage_verify.specs.Faults.{fault_in, fault_of}
 use Rattle.mage_verify.specs.Parts.{WorkerPart, parts_from, parts_of}
 use Rattle.mage_verify.specs.Runs.{AreVerified}
 use Rattle.mage_accepted.proofs.Directives.{length-homed}
 use Rattle.mage_rehome.specs.Rehomed.{homed_parts, rehomed_of}
+use Rattle.mage_rehome.proofs.Faultless.{renaming_makes_no_fault}
 use Rattle.mage_rehome.proofs.Ranges.{rehomed_in_range}
 
 homed_from_parts : (limits : Limits) (stores : List ℕ) (worker : ℕ) (workers : List (List Directive))
@@ -66,3 +67,11 @@ fields_homed parts limits are of_whole =
     let same = are.whole.2 in
     subst IsMemProgram (sym (whole_homed whole parts limits same (of_whole whole same)))
     (rehomed_in_range whole are.whole.1 (subst (λ xs. fault_in xs ≡ None) same are.none))
+
+pub none_whole : (parts : List WorkerPart) (limits : Limits) → AreVerified parts → ((whole : MemProgram) → parts ≡ parts_of whole → limits ≡ whole.limits)
+    → fault_of (program_of limits (homed_parts parts)) ≡ None
+none_whole parts limits are of_whole =
+    let whole = are.whole.0 in
+    let same = are.whole.2 in
+    subst (λ (plan : MemProgram). fault_of plan ≡ None) (sym (whole_homed whole parts limits same (of_whole whole same)))
+    (renaming_makes_no_fault whole (subst (λ xs. fault_in xs ≡ None) same are.none))

@@ -23,3 +23,7 @@ RenamingKeepsCarried =
     (program : Program) (plan : MemProgram)
     → fault_of plan ≡ None
     → (carries_of program (rehomed_of plan) ≡ carry.Yes) ↔ (carries_of program plan ≡ carry.Yes)
+
+-- And then the one with store pages has none either.
+abbrev pub RenamingMakesNoFault : Type 0
+RenamingMakesNoFault = (plan : MemProgram) → (fault_of plan ≡ None) → fault_of (rehomed_of plan) ≡ None

@@ -1,11 +1,16 @@
 // What holds of memory programs whose pages are renamed.
 ghost use Rattle.mage_rehome.specs.Earlier.{EarlierPlansComeToTodays, EarlierPlansAreAccepted};
-ghost use Rattle.mage_rehome.specs.Rehomed.{RenamingKeepsCarried};
+ghost use Rattle.mage_rehome.specs.Rehomed.{RenamingKeepsCarried, RenamingMakesNoFault};
 
 /// A memory program without a fault carries a program exactly where the one with store pages does, whoever made it and whatever
 /// its pages are used for.
 pub fn renaming_keeps_carried()
     ensures { RenamingKeepsCarried }
+{}
+
+/// A memory program without a fault has none with store pages: the verifier finds nothing wrong with it.
+pub fn renaming_makes_no_fault()
+    ensures { RenamingMakesNoFault }
 {}
 
 /// The memory program that the passes made of a program when each page was stored under its own number comes to the one that they

@@ -5,5 +5,8 @@
 mod laws;
 mod rehoming;
 
-pub use laws::{earlier_plans_are_accepted, earlier_plans_come_to_todays, renaming_keeps_carried};
+pub use laws::{
+    earlier_plans_are_accepted, earlier_plans_come_to_todays, renaming_keeps_carried,
+    renaming_makes_no_fault,
+};
 pub use rehoming::rehome;

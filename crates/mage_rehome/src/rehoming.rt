@@ -1,8 +1,9 @@
 // Store pages in place of the pages that a verified memory program names.
-ghost use Rattle.std.specs.Prelude.{◌≡◌, ◌∷◌, IfOk, length, map};
+ghost use Rattle.std.specs.Prelude.{◌≡◌, ◌∷◌, IfOk, None, length, map};
 ghost use Rattle.mage_instr.specs.declared.directive.MemProgram.{MemProgram};
 ghost use Rattle.mage_directives.specs.Directives.{IsMemProgram};
 ghost use Rattle.mage_schedulable.specs.Planning.{program_of};
+ghost use Rattle.mage_verify.specs.Faults.{fault_of};
 ghost use Rattle.mage_verify.specs.Parts.{parts_of};
 ghost use Rattle.mage_rehome.specs.Rehomed.{homed_parts, rehomed_of};
 
@@ -20,13 +21,15 @@ use std::alloc::Global;
 /// pages of `Fresh` and all other directives stay.
 ///
 /// What the verifier was given (`whole`) carries a program exactly where the result does (`renaming_keeps_carried`). Each field of
-/// the result is in its range, so it can be written, and each worker has as many directives as before.
+/// the result is in its range, so it can be written, it has no fault, so the verifier takes it when it is read again, and each worker
+/// has as many directives as before.
 ///
 /// `Memory` where there is none. Nothing else can go wrong.
 pub fn rehome(alloc: Global, plan: Verified) -> Result<MemProgram, Memory>
     ensures plan { (whole : MemProgram) → plan ≡ parts_of whole
         → IfOk result (λ renamed. renamed ≡ rehomed_of whole) }
     ensures fields { IfOk result IsMemProgram }
+    ensures none { IfOk result (λ renamed. fault_of renamed ≡ None) }
     ensures counts { IfOk result (λ renamed. map length renamed.workers
         ≡ map (λ part. length part.directives) plan) }
 {

@@ -72,7 +72,7 @@ macro_rules! take {
     };
 }
 
-macro_rules! write {
+macro_rules! issued {
     ($frame:literal $page:literal) => {
         Directive::IssueOut { slot: 0, frame: $frame, page: $page }
     };
@@ -115,7 +115,7 @@ fn the_page_that_leaves_takes_the_first_store_page(rt: HostRuntime) -> Result<()
         input!(0),
         fresh!(1 1),
         input!(1),
-        write!(1 1),
+        issued!(1 1),
         fresh!(1 2),
         input!(1),
         OUTPUT,
@@ -131,7 +131,7 @@ fn the_page_that_leaves_takes_the_first_store_page(rt: HostRuntime) -> Result<()
         input!(0),
         fresh!(1 1),
         input!(1),
-        write!(1 0),
+        issued!(1 0),
         fresh!(1 2),
         input!(1),
         OUTPUT,
@@ -148,13 +148,13 @@ fn the_page_that_leaves_takes_the_first_store_page(rt: HostRuntime) -> Result<()
 #[test]
 fn a_store_page_is_used_again(rt: HostRuntime) -> Result<(), Fail> {
     let directives = [
-        write!(0 7),
+        issued!(0 7),
         WRITTEN,
-        write!(1 4),
+        issued!(1 4),
         WRITTEN,
         read!(7),
         take!(0),
-        write!(0 9),
+        issued!(0 9),
         WRITTEN,
         read!(4),
         take!(1),
@@ -164,13 +164,13 @@ fn a_store_page_is_used_again(rt: HostRuntime) -> Result<(), Fail> {
     let plan = one_worker(rt.alloc(), 10, &directives)?;
     let renamed = rehome(rt.alloc(), verify(rt.alloc(), plan)?)?;
     let expected = [
-        write!(0 0),
+        issued!(0 0),
         WRITTEN,
-        write!(1 1),
+        issued!(1 1),
         WRITTEN,
         read!(0),
         take!(0),
-        write!(0 0),
+        issued!(0 0),
         WRITTEN,
         read!(1),
         take!(1),
@@ -185,13 +185,13 @@ fn a_store_page_is_used_again(rt: HostRuntime) -> Result<(), Fail> {
 #[test]
 fn a_page_is_written_twice_and_one_never_read(rt: HostRuntime) -> Result<(), Fail> {
     let directives = [
-        write!(0 8),
+        issued!(0 8),
         WRITTEN,
-        write!(0 5),
+        issued!(0 5),
         WRITTEN,
-        write!(1 3),
+        issued!(1 3),
         WRITTEN,
-        write!(1 5),
+        issued!(1 5),
         WRITTEN,
         read!(3),
         take!(0),
@@ -201,13 +201,13 @@ fn a_page_is_written_twice_and_one_never_read(rt: HostRuntime) -> Result<(), Fai
     let plan = one_worker(rt.alloc(), 9, &directives)?;
     let renamed = rehome(rt.alloc(), verify(rt.alloc(), plan)?)?;
     let expected = [
-        write!(0 0),
+        issued!(0 0),
         WRITTEN,
-        write!(0 0),
+        issued!(0 0),
         WRITTEN,
-        write!(1 1),
+        issued!(1 1),
         WRITTEN,
-        write!(1 0),
+        issued!(1 0),
         WRITTEN,
         read!(1),
         take!(0),

@@ -1,12 +1,13 @@
-use Rattle.std.proofs.Common.{◌≡◌, ◌<◌, List, length, map, ap, sym, ◌∙◌, arith, subst}
+use Rattle.std.proofs.Common.{◌≡◌, ◌<◌, List, None, length, map, ap, sym, ◌∙◌, arith, subst}
 use Rattle.std.proofs.lemmas.Grind.{common_steps}
 use Rattle.std.proofs.lemmas.Result.{IfOk-weaker}
 use Rattle.mage_instr.specs.declared.directive.MemProgram.{MemProgram}
 use Rattle.mage_directives.specs.Directives.{IsMemProgram}
 use Rattle.mage_schedulable.specs.Planning.{program_of}
+use Rattle.mage_verify.specs.Faults.{fault_of}
 use Rattle.mage_verify.specs.Parts.{WorkerPart}
 use Rattle.mage_rehome.specs.Rehomed.{homed_parts, rehomed_of}
-use Rattle.mage_rehome.proofs.Whole.{some_part, first_is, as_many, whole_homed, fields_homed}
+use Rattle.mage_rehome.proofs.Whole.{some_part, first_is, as_many, whole_homed, fields_homed, none_whole}
 use Rattle.mage_rehome.proofs.rehoming.rehome.Goals as goal
 
 pub index-requires : goal.index-requires
@@ -36,6 +37,19 @@ returns-clause-fields c =
     (λ whole e. c.limits-limits.ensures ∙ first_is whole c.parts-parts.result.items c.index.result.now there c.index.ensures (c.parts-parts.ensures.parts ∙ e)) in
     IfOk-weaker c.renamed.result (λ renamed. renamed ≡ program_of c.limits-limits.result (homed_parts c.as_slice.result.now)) IsMemProgram
     (λ renamed is. subst IsMemProgram (sym (is ∙ ap (λ (parts : List WorkerPart). program_of c.limits-limits.result (homed_parts parts)) same)) fields)
+    c.renamed.ensures
+
+pub returns-clause-none : goal.returns-clause-none
+returns-clause-none c =
+    let some = some_part c.args.plan c.parts-parts.ensures.verified in
+    let long : length c.parts-parts.result.items ≡ length c.args.plan = ap length c.parts-parts.ensures.parts in
+    let there : 0 < length c.parts-parts.result.items = omega (arith, some, long) in
+    let same : c.as_slice.result.now ≡ c.args.plan = c.as_slice.ensures.value ∙ c.parts-parts.ensures.parts in
+    let none = none_whole c.args.plan c.limits-limits.result c.parts-parts.ensures.verified
+    (λ whole e. c.limits-limits.ensures ∙ first_is whole c.parts-parts.result.items c.index.result.now there c.index.ensures (c.parts-parts.ensures.parts ∙ e)) in
+    let Faultless : MemProgram → Type 0 = λ plan. fault_of plan ≡ None in
+    IfOk-weaker c.renamed.result (λ renamed. renamed ≡ program_of c.limits-limits.result (homed_parts c.as_slice.result.now)) Faultless
+    (λ renamed is. subst Faultless (sym (is ∙ ap (λ (parts : List WorkerPart). program_of c.limits-limits.result (homed_parts parts)) same)) none)
     c.renamed.ensures
 
 pub returns-clause-counts : goal.returns-clause-counts
