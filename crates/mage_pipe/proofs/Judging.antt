@@ -1,5 +1,5 @@
 -- What a worker's passes say of the definition.
-use Rattle.std.proofs.Common.{◌≡◌, ◌↔◌, ◌∙◌, ap, sym, ℕ, List, Option, Some, None, Result, Ok, Err, IfOk, refl}
+use Rattle.std.proofs.Common.{◌≡◌, ◌↔◌, ◌∙◌, ap, sym, subst, ℕ, List, Option, Some, None, Result, Ok, Err, IfOk, refl}
 use Rattle.std.specs.Option.{option_or}
 use Rattle.mage_instr.specs.declared.directive.Directive.{Directive}
 use Rattle.mage_instr.specs.declared.instr.Instr.{Instr}
@@ -35,6 +35,16 @@ not_tight : {T U : Type 0} (o p : Option Tight) (x z : T) (y : U) → unless_tig
 not_tight None p x z y h = (refl, cc)
 not_tight (Some s) p x z y h = absurd (cc)
 
+-- a buffer that is too small is so for whatever is made with it, and so is one that suffices
+tight_too : {T U : Type 0} (o : Option Tight) (x : T) (y : U) (fault : ReplaceError) → FailsTight fault (unless_tight o x) → FailsTight fault (unless_tight o y)
+tight_too (Some s) x y (errors.Tight t) h = let same : s ≡ t = cc in ap Err same
+tight_too None x y (errors.Tight t) h = absurd (cc)
+tight_too o x y errors.Memory h = tt
+
+fits_too : {T U : Type 0} (o : Option Tight) (x z : T) (y : U) → unless_tight o x ≡ Ok z → unless_tight o y ≡ Ok y
+fits_too None x z y h = refl
+fits_too (Some t) x z y h = absurd (cc)
+
 module _ (limits : Limits) (instrs : List Instr) (places : List Place) (trace : List Step) (are_places : places ≡ places_for limits instrs) (are_steps : trace ≡ trace_for limits instrs) where
   pub worker_tight : (t : Tight) → unless_tight (tight_of limits.frames 0 trace) (rule_of limits.frames instrs places trace) ≡ Err t → fitting_stats_of limits instrs ≡ Err t
   unfolding fitting_stats_of
@@ -64,6 +74,20 @@ module _ (limits : Limits) (instrs : List Instr) (places : List Place) (trace : 
   worker_planned list h =
       let both = not_tight (tight_of limits.frames 0 (trace_for limits instrs)) (buffer_tight limits.buffer (list_for limits instrs)) (list_for limits instrs) list (directives_for limits instrs) (rw (are_places, are_steps) at h) in
       rw (sym both.1) both.0
+
+  -- Below, the list was made, and its schedule may not be.
+  module _ (list : List Replaced) (listed : unless_tight (tight_of limits.frames 0 trace) (rule_of limits.frames instrs places trace) ≡ Ok list) where
+    pub unscheduled : (fault : ReplaceError) → FailsTight fault (unless_tight (buffer_tight limits.buffer list) (directives_of limits list)) → FailsTight fault (fitting_directives_of limits instrs)
+    unscheduled fault h = subst (FailsTight fault) (sym (worker_planned list listed)) h
+
+    -- what has no schedule has no costs
+    pub uncounted : (fault : ReplaceError) → FailsTight fault (unless_tight (buffer_tight limits.buffer list) (directives_of limits list)) → FailsTight fault (fitting_stats_of limits instrs)
+    uncounted fault h =
+        subst (FailsTight fault) (sym (worker_listed list listed)) (tight_too (buffer_tight limits.buffer list) (directives_of limits list) (cost_of instrs places trace list) fault h)
+
+    -- and what has one has them
+    pub counted : (homed : Homed) → unless_tight (buffer_tight limits.buffer list) (directives_of limits list) ≡ Ok homed → fitting_stats_of limits instrs ≡ Ok (cost_of instrs places trace list)
+    counted homed h = worker_listed list listed ∙ fits_too (buffer_tight limits.buffer list) (directives_of limits list) homed (cost_of instrs places trace list) h
 
 -- a schedule that was made is the one of the definition, and the buffer isn't too small
 pub schedule_made : {X : Type 0} (r : Result X ScheduleError) (x : X) (o : Option Tight) (homed : Homed) (directives : List Directive) (store : ℕ) → r ≡ Ok x

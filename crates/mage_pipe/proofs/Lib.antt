@@ -7,3 +7,4 @@ mod Walking
 mod Joining
 mod PlanningLemmas
 mod Accepted
+pub mod Alike

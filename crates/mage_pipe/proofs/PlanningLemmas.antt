@@ -83,15 +83,17 @@ is_passed limits program plan sound have h =
 is_plan : (limits : Limits) (program : Program) (plan : MemProgram) → IsPassed limits program plan → IsPlanOf limits program plan
 is_plan limits program plan is = subst (λ (x : MemProgram). IsPlanOf limits program x) (sym is.1) (passes_plan limits program is.0)
 
-pub passed_answer : (limits : Limits) (program : Program) (answer : Result MemProgram PlanFault) → All IsSound program.workers
-    → Gives (λ plan. plan) answer (memory_program_of limits program.workers) → IfOk answer (λ plan. All HaveArguments program.workers) → IfOk answer (IsPassed limits program)
-passed_answer limits program (Ok plan) sound gives have = is_passed limits program plan sound have gives
-passed_answer limits program (Err fault) sound gives have = tt
+-- an answer of which a part, seen by view, is the memory program
+module _ {X : Type 0} (view : X → MemProgram) (limits : Limits) (program : Program) where
+  pub passed_answer : (answer : Result X PlanFault) → All IsSound program.workers
+      → Gives view answer (memory_program_of limits program.workers) → IfOk answer (λ x. All HaveArguments program.workers) → IfOk answer (λ x. IsPassed limits program (view x))
+  passed_answer (Ok x) sound gives have = is_passed limits program (view x) sound have gives
+  passed_answer (Err fault) sound gives have = tt
 
-pub plan_answer : (limits : Limits) (program : Program) (answer : Result MemProgram PlanFault) → All IsSound program.workers
-    → Gives (λ plan. plan) answer (memory_program_of limits program.workers) → IfOk answer (λ plan. All HaveArguments program.workers) → IfOk answer (IsPlanOf limits program)
-plan_answer limits program (Ok plan) sound gives have = is_plan limits program plan (is_passed limits program plan sound have gives)
-plan_answer limits program (Err fault) sound gives have = tt
+  pub plan_answer : (answer : Result X PlanFault) → All IsSound program.workers
+      → Gives view answer (memory_program_of limits program.workers) → IfOk answer (λ x. All HaveArguments program.workers) → IfOk answer (λ x. IsPlanOf limits program (view x))
+  plan_answer (Ok x) sound gives have = is_plan limits program (view x) (is_passed limits program (view x) sound have gives)
+  plan_answer (Err fault) sound gives have = tt
 
 pub text_answer : (limits : Limits) (text : List ℕ) (loaded : Loaded) (answer : Result MemProgram PlanFault) → or_language (loaded_of text) ≡ Ok loaded
     → IfOk answer (IsPlanOf limits loaded.program) → IfOk answer (IsPlanOfText limits text)

@@ -17,6 +17,10 @@ one_more : {T : Type 0} (items : List T) (x : T) (rest : Result (List T) PlanFau
 one_more items x (Ok others) = ap Ok (sym (append_assoc items (x ∷ []) others))
 one_more items x (Err fault) = refl
 
+none_before : {T : Type 0} (rest : Result (List T) PlanFault) → in_front [] rest ≡ rest
+none_before (Ok others) = refl
+none_before (Err fault) = refl
+
 -- Below, `all` has what the workers before worker i cost, whose instructions are `own`.
 module _ (limits : Limits) (workers : List (List Instr)) (all : List WorkerStats) (i : ℕ) (own : List Instr) (within : i < length workers) (is : own ≡ get_or workers i own) (kept : in_front all (stats_from limits i (drop i workers)) ≡ stats_from limits 0 workers) where
   turn : in_front all (tight_at i (worker_stats_of limits own) >>= (λ stats. stats_from limits (i + 1) (drop (i + 1) workers) >>= (λ others. Ok (stats ∷ others)))) ≡ stats_from limits 0 workers
@@ -42,3 +46,7 @@ module _ (limits : Limits) (workers : List (List Instr)) (all : List WorkerStats
 pub turns_end : (limits : Limits) (workers : List (List Instr)) (all : List WorkerStats) (i : ℕ) → length workers ≤ i → in_front all (stats_from limits i (drop i workers)) ≡ stats_from limits 0 workers → stats_of limits workers ≡ Ok all
 unfolding stats_of stats_from
 turns_end limits workers all i past kept = sym kept ∙ at_drop_all (λ xs. in_front all (stats_from limits i xs)) workers i past ∙ ap Ok (append-nil all)
+
+-- before the first there is nothing
+pub turns_begin : (limits : Limits) (workers : List (List Instr)) (all : List WorkerStats) → all ≡ [] → in_front all (stats_from limits 0 workers) ≡ stats_from limits 0 workers
+turns_begin limits workers all e = ap (λ (xs : List WorkerStats). in_front xs (stats_from limits 0 workers)) e ∙ none_before (stats_from limits 0 workers)

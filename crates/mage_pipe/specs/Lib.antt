@@ -4,3 +4,4 @@ pub mod Least
 pub mod Loading
 pub mod Summary
 pub mod MemoryProgram
+pub mod Agreeing

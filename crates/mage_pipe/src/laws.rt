@@ -1,4 +1,5 @@
-// What holds of all summaries.
+// What holds of all summaries and plans.
+ghost use Rattle.mage_pipe.specs.Agreeing.{PlansFailAsCosts};
 ghost use Rattle.mage_pipe.specs.Least.{ReadsAreLeast};
 
 /// Proves that the reads of a worker's statistics are the fewest that any plan of residency for its trace has: some plan
@@ -6,4 +7,10 @@ ghost use Rattle.mage_pipe.specs.Least.{ReadsAreLeast};
 /// computer", IBM Systems Journal 5, 1966).
 pub fn reads_are_least()
     ensures { ReadsAreLeast }
+{}
+
+/// Proves that a plan and its costs fail alike: by their definitions the memory program of a program is wanting just where its
+/// costs are, and for the same reason.
+pub fn plans_fail_as_costs()
+    ensures { PlansFailAsCosts }
 {}

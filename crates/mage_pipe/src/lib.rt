@@ -2,6 +2,7 @@
 //! program.
 #![tactic(auto)]
 
+mod costed;
 mod counts;
 mod fault;
 mod laws;
@@ -13,11 +14,12 @@ mod planning;
 mod stats;
 mod worker;
 
+pub use costed::Planned;
 pub use fault::PlanFault;
-pub use laws::reads_are_least;
+pub use laws::{plans_fail_as_costs, reads_are_least};
 pub use loaded::Loaded;
 pub use loading::load;
-pub use making::{memory_program, plan};
+pub use making::{memory_program, plan, planned};
 pub use planning::{program_stats, summary};
 pub use stats::WorkerStats;
 

@@ -2,7 +2,7 @@
 ghost use Rattle.std.specs.Prelude.{◌≤◌};
 ghost use Rattle.mage_instr.specs.Limits.{AreInRange};
 
-use crate::{PlanFault, WorkerStats, load, reads_are_least, summary};
+use crate::{PlanFault, WorkerStats, load, plans_fail_as_costs, reads_are_least, summary};
 use mage_instr::{Limits, Tight};
 use mage_lex::{LangFault, LangKind};
 use std::alloc::Global;
@@ -149,6 +149,7 @@ fn a_fault_of_the_language(rt: HostRuntime) -> Result<(), Fail> {
 #[test]
 fn a_source_is_loaded(rt: HostRuntime) -> Result<(), Fail> {
     reads_are_least();
+    plans_fail_as_costs();
     let loaded = load(rt.alloc(), TWO_AT_ONCE.as_bytes())
         .ok()
         .ok_or("not loaded")?;

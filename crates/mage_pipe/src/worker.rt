@@ -98,7 +98,12 @@ pub(crate) fn listed(
 }
 
 // What is counted over the instructions and their plan.
-fn cost(instrs: &[Instr], places: &[Place], trace: &[Step], list: &[Replaced]) -> WorkerStats
+pub(crate) fn cost(
+    instrs: &[Instr],
+    places: &[Place],
+    trace: &[Step],
+    list: &[Replaced],
+) -> WorkerStats
     requires instrs { length instrs.now ≤ NEVER }
     requires pages { next_page places.now ≤ NEVER }
     ensures { result ≡ cost_of instrs.now places.now trace.now list.now }

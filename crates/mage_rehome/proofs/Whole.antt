@@ -13,6 +13,7 @@ use Rattle.mage_accepted.proofs.Directives.{length-homed}
 use Rattle.mage_rehome.specs.Rehomed.{homed_parts, rehomed_of}
 use Rattle.mage_rehome.proofs.Faultless.{renaming_makes_no_fault}
 use Rattle.mage_rehome.proofs.Ranges.{rehomed_in_range}
+use Rattle.mage_rehome.proofs.Renaming.{lists_of}
 
 homed_from_parts : (limits : Limits) (stores : List ℕ) (worker : ℕ) (workers : List (List Directive))
     → homed_parts (parts_from limits stores worker workers) ≡ map homed_of workers
@@ -48,10 +49,9 @@ some_part parts are =
     length_parts limits stores worker (part ∷ workers) = ap suc (length_parts limits stores (worker + 1) workers)
 
 -- as many directives as before
-pub as_many : (limits : Limits) (parts : List WorkerPart)
-    → map length (program_of limits (homed_parts parts)).workers ≡ map (λ (part : WorkerPart). length part.directives) parts
-as_many limits [] = refl
-as_many limits (part ∷ parts) = ap₂ (λ (n : ℕ) (ns : List ℕ). n ∷ ns) (length-homed empty_store part.directives) (as_many limits parts)
+pub as_many : (workers : List (List Directive)) → map length (lists_of workers) ≡ map length workers
+as_many [] = refl
+as_many (part ∷ workers) = ap₂ (λ (n : ℕ) (ns : List ℕ). n ∷ ns) (length-homed empty_store part) (as_many workers)
 
 -- what the parts of a memory program come to, by their own limits
 pub whole_homed : (whole : MemProgram) (parts : List WorkerPart) (limits : Limits) → parts ≡ parts_of whole → limits ≡ whole.limits

@@ -1,5 +1,5 @@
 // Store pages in place of the pages that a verified memory program names.
-ghost use Rattle.std.specs.Prelude.{◌≡◌, ◌∷◌, IfOk, None, length, map};
+ghost use Rattle.std.specs.Prelude.{◌≡◌, IfOk, None, length, map};
 ghost use Rattle.mage_instr.specs.declared.directive.MemProgram.{MemProgram};
 ghost use Rattle.mage_directives.specs.Directives.{IsMemProgram};
 ghost use Rattle.mage_schedulable.specs.Planning.{program_of};
@@ -30,8 +30,8 @@ pub fn rehome(alloc: Global, plan: Verified) -> Result<MemProgram, Memory>
         → IfOk result (λ renamed. renamed ≡ rehomed_of whole) }
     ensures fields { IfOk result IsMemProgram }
     ensures none { IfOk result (λ renamed. fault_of renamed ≡ None) }
-    ensures counts { IfOk result (λ renamed. map length renamed.workers
-        ≡ map (λ part. length part.directives) plan) }
+    ensures counts { (whole : MemProgram) → plan ≡ parts_of whole
+        → IfOk result (λ renamed. map length renamed.workers ≡ map length whole.workers) }
 {
     let parts = plan.parts();
     let limits = parts[0].limits();

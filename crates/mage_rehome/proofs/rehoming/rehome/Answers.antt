@@ -53,9 +53,7 @@ returns-clause-none c =
     c.renamed.ensures
 
 pub returns-clause-counts : goal.returns-clause-counts
-returns-clause-counts c =
-    let same : c.as_slice.result.now ≡ c.args.plan = c.as_slice.ensures.value ∙ c.parts-parts.ensures.parts in
-    IfOk-weaker c.renamed.result (λ renamed. renamed ≡ program_of c.limits-limits.result (homed_parts c.as_slice.result.now))
-    (λ renamed. map length renamed.workers ≡ map (λ (part : WorkerPart). length part.directives) c.args.plan)
-    (λ renamed is. ap (λ (plan : MemProgram). map length plan.workers) (is ∙ ap (λ (parts : List WorkerPart). program_of c.limits-limits.result (homed_parts parts)) same) ∙ as_many c.limits-limits.result c.args.plan)
-    c.renamed.ensures
+returns-clause-counts c = λ whole e.
+    IfOk-weaker c.renamed.result (λ renamed. renamed ≡ rehomed_of whole) (λ renamed. map length renamed.workers ≡ map length whole.workers)
+    (λ renamed is. ap (λ (plan : MemProgram). map length plan.workers) is ∙ as_many whole.workers)
+    (returns-clause-plan c whole e)
