@@ -1,4 +1,5 @@
 pub mod StepLemmas
+pub mod ProgramLemmas
 pub mod AnswerLemmas
 pub mod WordsLemmas
 pub mod WritingLemmas

@@ -1,14 +1,16 @@
 -- What is done of what a command comes to.
-use Rattle.std.proofs.Common.{◌≡◌, ◌≤◌, ℕ, List, [], length, Bool, Option, Some, None, Result, Ok, Err, refl, sym, ap, ap₂, subst, ◌∙◌, arith}
+use Rattle.std.proofs.Common.{◌≡◌, ◌≤◌, ℕ, List, [], length, Bool, Option, Some, None, Result, Ok, Err, refl, sym, ap, ap₂, subst, ◌∙◌, ◌∷◌, ◌++◌, take, IsTrue, arith}
 use Rattle.std.proofs.Math.Path.{fun_ext}
 use Rattle.std.specs.Option.{IfSome}
 use Rattle.mage_base.specs.Desk.{DeskTold, Files}
 use Rattle.mage_planner.specs.declared.refusal.Refusal.{Refusal}
 use Rattle.mage_planner.specs.declared.refusal.Refusal.TheVariants as refusal
-use Rattle.mage_planner.specs.Outcome.{Done, NewFile}
+use Rattle.mage_planner.specs.Outcome.{Done, NewFile, says}
 use Rattle.mage_planner.specs.Steps.{IsNoDeskFault, StepCounted}
 use Rattle.mage_planner.specs.Answer.{Works, HasRoom, OthersStay, with_files}
-use Rattle.mage_planner.specs.Writing.{Performs}
+use Rattle.mage_planner.specs.Warned.{Grows}
+use Rattle.mage_planner.specs.Writing.{Performs, Writes}
+use Rattle.mage_planner.proofs.WritingLemmas.{one_stays, grows_front}
 
 -- where nothing is written all files stay
 all_stay : (before after : Option Files) → OthersStay [] before after → after ≡ before
@@ -68,3 +70,48 @@ module _ (done : Done) (before after : DeskTold) where
 -- the desk that was read stays
 pub unread : (before mid : DeskTold) → mid ≡ record before { faults = mid.faults } → mid.faults ≡ before.faults → mid ≡ before
 unread before mid rest same = rest ∙ ap (λ (faults : ℕ). record before { faults = faults }) same
+
+-- ---- a file, and then a text
+
+module _ (file : NewFile) (text : List ℕ) where
+  abbrev both : Done
+  both = record { said = text; files = file ∷ [] }
+
+  -- the file is written, and the text is said, or not
+  pub written_said : (r : Result (Unit {0}) Refusal) (before mid after : DeskTold) → Writes {T = Unit {0}} (file ∷ []) (Ok tt) before mid
+      → Performs (says text) r mid after → Performs both r before after
+  written_said (Ok x) before mid after wrote does = record {
+    said = subst (λ (s : Option (List ℕ)). Grows s after.said (λ old new. new ≡ old ++ text)) (ap (λ (desk : DeskTold). desk.said) wrote) does.said;
+    room = λ steady. let room = does.room (subst IsTrue (sym (ap (λ (desk : DeskTold). desk.steady) wrote)) steady) in omega (arith, room, ap (λ (desk : DeskTold). desk.room) wrote);
+    rest = does.rest ∙ ap (λ (desk : DeskTold). record desk { files = desk.files; said = after.said; room = after.room }) wrote;
+  }
+  written_said (Err refusal.Desk) before mid after wrote fails =
+      let faults = ap (λ (desk : DeskTold). desk.faults) wrote in
+      let files = all_stay mid.files after.files fails.files ∙ ap (λ (desk : DeskTold). desk.files) wrote in
+      record {
+        said = subst (λ (s : Option (List ℕ)). Grows s after.said (λ old new. (n : ℕ) × (new ≡ old ++ take n text))) (ap (λ (desk : DeskTold). desk.said) wrote) fails.said;
+        files = subst (λ (f : Option Files). OthersStay (file ∷ []) before.files f) (sym files) (one_stays before.files file.name file.bytes file.bytes);
+        rises = rw faults at fails.rises;
+        rose = rw faults at fails.rose;
+        rest = fails.rest ∙ ap (λ (desk : DeskTold). record desk { files = after.files; said = after.said; faults = after.faults; room = after.room }) wrote;
+      }
+  written_said (Err refusal.Memory) before mid after wrote stops =
+      let files = all_stay mid.files after.files stops.files ∙ ap (λ (desk : DeskTold). desk.files) wrote in
+      record {
+        files = subst (λ (f : Option Files). OthersStay (file ∷ []) before.files f) (sym files) (one_stays before.files file.name file.bytes file.bytes);
+        rest = stops.rest ∙ ap (λ (desk : DeskTold). record desk { files = after.files }) wrote;
+      }
+  written_said (Err other) before mid after wrote none = absurd none
+
+  -- the file isn't written
+  pub unwritten : (why : Refusal) (before after : DeskTold) → Writes {T = Unit {0}} (file ∷ []) (Err why) before after → Performs {T = Unit {0}} both (Err why) before after
+  unwritten refusal.Desk before after wrote = record {
+    said = subst (λ (s : Option (List ℕ)). Grows before.said s (λ old new. (n : ℕ) × (new ≡ old ++ take n text))) (sym (ap (λ (desk : DeskTold). desk.said) wrote.rest)) (grows_front before.said text);
+    files = wrote.files;
+    rises = wrote.rises;
+    rose = wrote.rose;
+    rest = wrote.rest ∙ ap₂ (λ (s : Option (List ℕ)) (n : ℕ). record before { files = after.files; said = s; faults = after.faults; room = n })
+        (sym (ap (λ (desk : DeskTold). desk.said) wrote.rest)) (sym (ap (λ (desk : DeskTold). desk.room) wrote.rest));
+  }
+  unwritten refusal.Memory before after wrote = record { files = wrote.files; rest = wrote.rest }
+  unwritten other before after wrote = absurd wrote

@@ -1,56 +1,59 @@
 -- A refusal of a step is one of the whole work.
-use Rattle.std.proofs.Common.{◌≡◌, ℕ, List, true, Result, Ok, Err, ok_or, ap, ◌∙◌}
+use Rattle.std.proofs.Common.{◌≡◌, ℕ, List, Bool, true, Option, Some, None, Result, Ok, Err, ok_or, ap, ◌∙◌}
+use Rattle.std.specs.Option.{IfSome}
+use Rattle.mage_base.specs.Desk.{Files}
+use Rattle.mage_lex.specs.Limits.{MOST_BYTES}
 use Rattle.mage_chains.specs.Chains.{◌>>=◌}
 use Rattle.mage_instr.specs.declared.party.Party.TheVariants as party
 use Rattle.mage_pipe.specs.declared.loaded.Loaded.{Loaded}
 use Rattle.mage_pipe.specs.declared.stats.WorkerStats.{WorkerStats}
-use Rattle.mage_words.specs.Words.{SoloRequest, StatsRequest, DealRequest, request_of}
+use Rattle.mage_words.specs.Words.{Deal, SoloRequest, StatsRequest, DealRequest, request_of}
 use Rattle.mage_planner.specs.declared.refusal.Refusal.{Refusal}
 use Rattle.mage_planner.specs.declared.refusal.Refusal.TheVariants as refusal
 use Rattle.mage_planner.specs.SummaryText.{summary_text}
-use Rattle.mage_planner.specs.Outcome.{File, Absent, Found, Done, says, deals, source_of, costs_of, planned_of, numbers_of, seed_of, said_of, solo_outcome, stats_outcome, deal_outcome, outcome_for, outcome_of}
+use Rattle.mage_planner.specs.Outcome.{File, Absent, Found, nothing_found, found_in, file_at, file_named, INPUT_LIMIT, SEED_BYTES, Done, says, deals, source_of, costs_of, planned_of, numbers_of, seed_of, said_of, solo_outcome, stats_outcome, deal_outcome, outcome_for, outcome_of}
 use Rattle.mage_planner.specs.Steps.{Refuses}
 
 -- ---- chains
 
 -- what is refused as a step is, where the step's refusal is the work's
-refused_so : {T U : Type 0} (s : Refusal) (a : Result T Refusal) (b : Result U Refusal)
+pub refused_so : {T U : Type 0} (s : Refusal) (a : Result T Refusal) (b : Result U Refusal)
     → (a ≡ Err s → b ≡ Err s) → Refuses true s a → Refuses true s b
 refused_so refusal.Desk a b f r = λ sure. f (r sure)
 refused_so refusal.Memory a b f r = tt
 refused_so other a b f r = f r
 
 -- the first step is refused
-at_first : {T U : Type 0} (s : Refusal) (r : Result T Refusal) (f : T → Result U Refusal)
+pub at_first : {T U : Type 0} (s : Refusal) (r : Result T Refusal) (f : T → Result U Refusal)
     → Refuses true s r → Refuses true s (r >>= f)
 at_first s r f refused = refused_so s r (r >>= f) (λ e. ap (λ step. step >>= f) e) refused
 
 -- the first step is done, and what comes after it is refused
-after_first : {T U : Type 0} (s : Refusal) (r : Result T Refusal) (x : T) (f : T → Result U Refusal)
+pub after_first : {T U : Type 0} (s : Refusal) (r : Result T Refusal) (x : T) (f : T → Result U Refusal)
     → r ≡ Ok x → Refuses true s (f x) → Refuses true s (r >>= f)
 after_first s r x f done refused = refused_so s (f x) (r >>= f) (λ e. ap (λ step. step >>= f) done ∙ e) refused
 
 -- both are done
-both_done : {T U : Type 0} (r : Result T Refusal) (x : T) (f : T → Result U Refusal) (y : U)
+pub both_done : {T U : Type 0} (r : Result T Refusal) (x : T) (f : T → Result U Refusal) (y : U)
     → r ≡ Ok x → f x ≡ Ok y → (r >>= f) ≡ Ok y
 both_done r x f y done done_too = ap (λ step. step >>= f) done ∙ done_too
 
 -- ---- what is found where no more is read than the source, the source and the garbler's text, or all three
 
 abbrev pub only_source : File → Found
-only_source file = record { source = file; garbler = Absent; evaluator = Absent; seed = Absent }
+only_source file = record nothing_found { source = file }
 
 abbrev pub source_garbler : File → File → Found
 source_garbler source garbler =
-    record { source = source; garbler = garbler; evaluator = Absent; seed = Absent }
+    record nothing_found { source = source; garbler = garbler }
 
 abbrev pub all_three : File → File → File → Found
 all_three source garbler evaluator =
-    record { source = source; garbler = garbler; evaluator = evaluator; seed = Absent }
+    record nothing_found { source = source; garbler = garbler; evaluator = evaluator }
 
 abbrev pub for_deal : (source evaluator seed : File) → Found
 for_deal source evaluator seed =
-    record { source = source; garbler = Absent; evaluator = evaluator; seed = seed }
+    record nothing_found { source = source; evaluator = evaluator; seed = seed }
 
 -- ---- `solo`
 
@@ -186,6 +189,30 @@ deal-seed deal file evaluator seed loaded numbers s read read_too refused =
     after_first s (source_of file) loaded (to_numbers deal evaluator seed) read
     (after_first s (numbers_of party.Evaluator loaded evaluator) numbers (to_seed deal seed loaded) read_too
     (at_first s (seed_of seed) (to_files deal loaded numbers) refused))
+
+-- ---- the same where the desk tells its files
+
+-- what is refused as a step is
+told_so : {T U : Type 0} (steady : Bool) (s : Refusal) (a : Result T Refusal) (b : Result U Refusal)
+    → (a ≡ Err s → b ≡ Err s) → Refuses steady s a → Refuses steady s b
+told_so steady refusal.Desk a b f r = λ sure. f (r sure)
+told_so steady refusal.Memory a b f r = tt
+told_so steady other a b f r = f r
+
+-- The seed is refused, of a desk that is as it was but for its count of faults.
+pub deal-seed-told : (steady : Bool) (files : Option Files) (deal : DealRequest) (loaded : Loaded) (numbers : List (List ℕ)) (s : Refusal)
+    → IfSome files (λ f. source_of (file_at f deal.source MOST_BYTES) ≡ Ok loaded)
+    → IfSome files (λ f. numbers_of party.Evaluator loaded (file_named f deal.evaluator INPUT_LIMIT) ≡ Ok numbers)
+    → IfSome files (λ f. Refuses steady s (seed_of (file_at f deal.seed SEED_BYTES)))
+    → IfSome files (λ f. Refuses steady s (deal_outcome (found_in f (Deal deal)) deal))
+unfolding deal_outcome
+deal-seed-told steady None deal loaded numbers s read read_too refused = tt
+deal-seed-told steady (Some f) deal loaded numbers s read read_too refused =
+    let evaluator = file_named f deal.evaluator INPUT_LIMIT in
+    let seed = file_at f deal.seed SEED_BYTES in
+    told_so steady s (seed_of seed) (source_of (file_at f deal.source MOST_BYTES) >>= to_numbers deal evaluator seed)
+    (λ e. ap (λ step. step >>= to_numbers deal evaluator seed) read
+    ∙ (ap (λ step. step >>= to_seed deal seed loaded) read_too ∙ ap (λ step. step >>= to_files deal loaded numbers) e)) refused
 
 -- all is read
 pub deal-all : (deal : DealRequest) (file evaluator seed : File) (loaded : Loaded)

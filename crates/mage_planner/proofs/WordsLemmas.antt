@@ -13,14 +13,23 @@ use Rattle.mage_pipe.specs.declared.fault.PlanFault.{PlanFault}
 use Rattle.mage_pipe.specs.declared.fault.PlanFault.TheVariants as plan
 use Rattle.mage_pipe.specs.Loading.{loaded_of}
 use Rattle.mage_pipe.specs.Summary.{stats_of}
+use Rattle.mage_pipe.specs.MemoryProgram.{memory_program_of}
+use Rattle.mage_carry.specs.declared.carry.Carry.{Carry}
+use Rattle.mage_carry.specs.declared.carry.Carry.TheVariants as carry
+use Rattle.mage_file.specs.declared.fault.FileFault.{FileFault}
+use Rattle.mage_file.specs.declared.fault.FileFault.TheVariants as spelled
+use Rattle.mage_file.specs.Grammar.{read_of, read_first_of}
+use Rattle.mage_verify.specs.declared.fault.VerifyFault.{VerifyFault}
+use Rattle.mage_verify.specs.declared.fault.VerifyFault.TheVariants as verified
+use Rattle.mage_verify.specs.Faults.{fault_of}
 use Rattle.mage_texts.specs.InputText.{inputs_of}
-use Rattle.mage_words.specs.Words.{Request, Solo, Stats, Deal, SoloRequest, StatsRequest, DealRequest, request_of}
+use Rattle.mage_words.specs.Words.{Request, Solo, Stats, Deal, Plan, Check, Upgrade, SoloRequest, StatsRequest, DealRequest, PlanRequest, CheckRequest, UpgradeRequest, request_of}
 use Rattle.mage_planner.specs.declared.refusal.Refusal.{Refusal}
 use Rattle.mage_planner.specs.declared.refusal.Refusal.TheVariants as refusal
 use Rattle.mage_planner.specs.declared.status.Status.{Status}
 use Rattle.mage_planner.specs.declared.status.Status.TheVariants as status
 use Rattle.mage_planner.specs.Lines.{status_of}
-use Rattle.mage_planner.specs.Outcome.{File, Absent, Long, Held, Found, Done, SEED_BYTES, says, deals, bytes_or, or_language, or_limits, or_line, long_source, said_of, source_of, costs_of, if_planned, if_seed, seed_of, planned_of, numbers_of, solo_outcome, stats_outcome, deal_outcome, outcome_for, outcome_of}
+use Rattle.mage_planner.specs.Outcome.{File, Absent, Long, Held, Found, Done, SEED_BYTES, says, deals, bytes_or, or_language, or_limits, or_line, long_source, said_of, source_of, costs_of, if_planned, if_seed, seed_of, planned_of, numbers_of, plans, or_file, unless_faulty, long_program, program_of, carry_of, carried_or, first_program_of, renamed_of, upgrades, solo_outcome, stats_outcome, deal_outcome, plan_outcome, check_outcome, upgrade_outcome, outcome_for, outcome_of}
 use Rattle.mage_planner.specs.SummaryText.{summary_text}
 use Rattle.mage_planner.specs.Warned.{IsOrMemory}
 use Rattle.mage_planner.specs.Answer.{Works, ComesFrom, IsWordsOrMemory, WritesNoFile, files_of}
@@ -128,10 +137,72 @@ deal_other found deal =
     then_other (seed_of found.seed) (λ seed. Ok (deals deal.labels loaded.program seed evaluator))
     (seed_other found.seed) (λ seed. tt)))
 
+plan_other : (found : Found) (plan : PlanRequest) → NoWords (plan_outcome found plan)
+unfolding plan_outcome
+plan_other found plan =
+    then_other (source_of found.source) _ (source_other found.source) (λ loaded.
+    then_other (or_limits (memory_program_of plan.limits loaded.program.workers)) _
+    (limits_other (memory_program_of plan.limits loaded.program.workers)) (λ program.
+    then_other (costs_of plan.limits loaded) (λ costs. Ok (plans plan.out program costs))
+    (costs_other plan.limits loaded) (λ costs. tt)))
+
+file_other : {T : Type 0} (r : Result T FileFault) → NoWords (or_file r)
+file_other (Ok x) = tt
+file_other (Err spelled.Long) = tt
+file_other (Err spelled.Magic) = tt
+file_other (Err spelled.Version) = tt
+file_other (Err (spelled.Short place)) = tt
+file_other (Err (spelled.Field place)) = tt
+file_other (Err (spelled.Extra place)) = tt
+file_other (Err spelled.Memory) = tt
+
+faulty_other : {T : Type 0} (o : Option VerifyFault) (x : T) → NoWords (unless_faulty o x)
+faulty_other None x = tt
+faulty_other (Some (verified.Range worker directive)) x = tt
+faulty_other (Some (verified.SlotState worker directive)) x = tt
+faulty_other (Some (verified.PageState worker directive)) x = tt
+faulty_other (Some (verified.Width worker directive)) x = tt
+faulty_other (Some (verified.Links worker directive)) x = tt
+faulty_other (Some verified.Memory) x = tt
+
+carried_other : (judged : Carry) → NoWords (carried_or judged)
+carried_other carry.Yes = tt
+carried_other (carry.No worker directive) = tt
+
+program_other : (file : File) → NoWords (program_of file)
+unfolding program_of
+program_other file =
+    then_other (bytes_or long_program file) (λ bytes. or_file (read_of bytes))
+    (bytes_other long_program file tt) (λ bytes. file_other (read_of bytes))
+
+check_other : (found : Found) (check : CheckRequest) → NoWords (check_outcome found check)
+unfolding check_outcome
+check_other found check =
+    then_other (source_of found.source) _ (source_other found.source) (λ loaded.
+    then_other (program_of found.program) _ (program_other found.program) (λ program.
+    then_other (carry_of loaded.program program) carried_or
+    (faulty_other (fault_of program) _) carried_other))
+
+first_other : (file : File) → NoWords (first_program_of file)
+unfolding first_program_of
+first_other file =
+    then_other (bytes_or long_program file) (λ bytes. or_file (read_first_of bytes))
+    (bytes_other long_program file tt) (λ bytes. file_other (read_first_of bytes))
+
+upgrade_other : (found : Found) (upgrade : UpgradeRequest) → NoWords (upgrade_outcome found upgrade)
+unfolding upgrade_outcome
+upgrade_other found upgrade =
+    then_other (first_program_of found.program) _ (first_other found.program) (λ program.
+    then_other (renamed_of program) (λ renamed. Ok (upgrades upgrade.out renamed))
+    (faulty_other (fault_of program) _) (λ renamed. tt))
+
 request_other : (found : Found) (request : Request) → NoWords (outcome_for found request)
 request_other found (Solo solo) = solo_other found solo
 request_other found (Stats stats) = stats_other found stats
 request_other found (Deal deal) = deal_other found deal
+request_other found (Plan plan) = plan_other found plan
+request_other found (Check check) = check_other found check
+request_other found (Upgrade upgrade) = upgrade_other found upgrade
 
 words_only : (outcome : Result Done Refusal) → NoWords outcome → outcome ≡ Err refusal.Words → ⊥
 words_only (Ok done) other e = cc
@@ -208,6 +279,19 @@ stats_writes_none found stats done is =
     let costs = then_ok (costs_of stats.limits loaded.0) _ done loaded.1 in
     says_no_file _ done costs.1
 
+-- what carries says a text
+carried_none : (judged : Carry) (done : Done) → carried_or judged ≡ Ok done → done.files ≡ []
+carried_none carry.Yes done is = says_no_file _ done is
+carried_none (carry.No worker directive) done is = cc
+
+check_writes_none : (found : Found) (check : CheckRequest) (done : Done) → check_outcome found check ≡ Ok done → done.files ≡ []
+unfolding check_outcome
+check_writes_none found check done is =
+    let loaded = then_ok (source_of found.source) _ done is in
+    let program = then_ok (program_of found.program) _ done loaded.1 in
+    let judged = then_ok (carry_of loaded.0.program program.0) _ done program.1 in
+    carried_none judged.0 done judged.1
+
 -- what is done by words that ask for no file has none
 pub writes_none_of : (found : Found) (words : List (List ℕ)) (done : Done) → WritesNoFile (request_of words) → outcome_of found words ≡ Ok done → done.files ≡ []
 unfolding outcome_of
@@ -217,3 +301,6 @@ writes_none_of found words done none is = go (request_of words) none is where
   go (Some (Solo solo)) none is = solo_writes_none found solo done is
   go (Some (Stats stats)) none is = stats_writes_none found stats done is
   go (Some (Deal deal)) none is = absurd none
+  go (Some (Plan plan)) none is = absurd none
+  go (Some (Check check)) none is = check_writes_none found check done is
+  go (Some (Upgrade upgrade)) none is = absurd none

@@ -207,7 +207,7 @@ grows_none : (said : Option (List ℕ)) → Grows said said (λ old new. new ≡
 grows_none None = tt
 grows_none (Some said) = sym (append-nil said)
 
-grows_front : (said : Option (List ℕ)) (text : List ℕ) → Grows said said (λ old new. (n : ℕ) × (new ≡ old ++ take n text))
+pub grows_front : (said : Option (List ℕ)) (text : List ℕ) → Grows said said (λ old new. (n : ℕ) × (new ≡ old ++ take n text))
 grows_front None text = tt
 grows_front (Some said) text = (0, sym (append-nil said))
 

@@ -2,7 +2,7 @@
 use Rattle.std.specs.Prelude.{◌≡◌, ◌≢◌, ◌≤◌, ◌+◌, ℕ, List, [], ◌∷◌, ◌++◌, length, take, Bool, IsTrue, All, Option, Some, None, IsSomeAnd, Result, Ok, Err, IsOkAnd}
 use Rattle.mage_base.specs.Desk.{DeskTold, Files, files_with}
 use Rattle.mage_base.specs.Faults.{Rose}
-use Rattle.mage_words.specs.Words.{Request, Solo, Stats, Deal}
+use Rattle.mage_words.specs.Words.{Request, Solo, Stats, Deal, Plan, Check, Upgrade}
 use Rattle.mage_planner.specs.declared.refusal.Refusal.{Refusal}
 use Rattle.mage_planner.specs.declared.refusal.Refusal.TheVariants as refusal
 use Rattle.mage_planner.specs.declared.status.Status.{Status}
@@ -136,6 +136,9 @@ WritesNoFile None = Unit {0}
 WritesNoFile (Some (Solo solo)) = Unit {0}
 WritesNoFile (Some (Stats stats)) = Unit {0}
 WritesNoFile (Some (Deal deal)) = ⊥
+WritesNoFile (Some (Plan plan)) = ⊥
+WritesNoFile (Some (Check check)) = Unit {0}
+WritesNoFile (Some (Upgrade upgrade)) = ⊥
 
 -- ---- when the desk doesn't fail
 

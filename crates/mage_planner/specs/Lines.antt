@@ -10,6 +10,8 @@ use Rattle.mage_instr.specs.declared.party.Party.{Party}
 use Rattle.mage_instr.specs.declared.party.Party.TheVariants as party
 use Rattle.mage_planner.specs.declared.refusal.Refusal.{Refusal}
 use Rattle.mage_planner.specs.declared.refusal.Refusal.TheVariants as refusal
+use Rattle.mage_planner.specs.declared.refusal.ProgramFault.{ProgramFault}
+use Rattle.mage_planner.specs.declared.refusal.ProgramFault.TheVariants as wrong
 use Rattle.mage_planner.specs.declared.status.Status.{Status}
 use Rattle.mage_planner.specs.declared.status.Status.TheVariants as status
 
@@ -21,6 +23,8 @@ status_of (refusal.Limits worker tight) = status.Limits
 status_of (refusal.InputLine party line) = status.InputText
 status_of (refusal.InputTooLong party) = status.InputText
 status_of refusal.InputSeed = status.InputText
+status_of (refusal.MemoryProgram fault) = status.MemoryProgram
+status_of (refusal.CheckNo worker directive) = status.CheckNo
 status_of refusal.Desk = status.Desk
 status_of refusal.Memory = status.Memory
 
@@ -52,6 +56,25 @@ tight_parts (tight.Buffer instr) = decimal instr ∷ codes " needs a buffer slot
 tight_parts (tight.Page instr class) =
     decimal instr ∷ codes " needs a page of " ∷ decimal class ∷ codes " wires\n" ∷ []
 
+-- a worker and its directive, to the end of the line
+abbrev pub directive_parts : (worker directive : ℕ) → List (List ℕ)
+directive_parts worker directive =
+    codes "worker " ∷ decimal worker ∷ codes " directive " ∷ decimal directive ∷ codes "\n" ∷ []
+
+-- what is wrong with a memory program, to the end of the line
+abbrev pub program_parts : ProgramFault → List (List ℕ)
+program_parts wrong.TooLong = codes "too long\n" ∷ []
+program_parts wrong.Magic = codes "bad magic\n" ∷ []
+program_parts wrong.Version = codes "bad version\n" ∷ []
+program_parts (wrong.Short place) = codes "short at " ∷ decimal place ∷ codes "\n" ∷ []
+program_parts (wrong.Field place) = codes "bad field at " ∷ decimal place ∷ codes "\n" ∷ []
+program_parts (wrong.Extra place) = codes "extra at " ∷ decimal place ∷ codes "\n" ∷ []
+program_parts (wrong.Range worker directive) = codes "Range " ∷ directive_parts worker directive
+program_parts (wrong.SlotState worker directive) = codes "SlotState " ∷ directive_parts worker directive
+program_parts (wrong.PageState worker directive) = codes "PageState " ∷ directive_parts worker directive
+program_parts (wrong.Width worker directive) = codes "Width " ∷ directive_parts worker directive
+program_parts (wrong.Links worker directive) = codes "Links " ∷ directive_parts worker directive
+
 -- the parts of a refusal's line
 abbrev pub line_parts : Refusal → List (List ℕ)
 line_parts refusal.Words = codes "mage: bad words\n" ∷ []
@@ -64,6 +87,8 @@ line_parts (refusal.InputLine party line) =
     codes "mage: input " ∷ party_name party ∷ codes " line " ∷ decimal line ∷ codes "\n" ∷ []
 line_parts (refusal.InputTooLong party) = codes "mage: input " ∷ party_name party ∷ codes " too long\n" ∷ []
 line_parts refusal.InputSeed = codes "mage: input seed\n" ∷ []
+line_parts (refusal.MemoryProgram fault) = codes "mage: memory program: " ∷ program_parts fault
+line_parts (refusal.CheckNo worker directive) = codes "mage: check: " ∷ directive_parts worker directive
 line_parts refusal.Desk = codes "mage: desk fault\n" ∷ []
 line_parts refusal.Memory = codes "mage: no memory\n" ∷ []
 

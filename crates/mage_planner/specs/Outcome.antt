@@ -14,8 +14,19 @@ use Rattle.mage_instr.specs.declared.party.Party.TheVariants as party
 use Rattle.mage_meaning.specs.Given.{Given}
 use Rattle.mage_meaning.specs.Value.{value_of}
 use Rattle.mage_instr.specs.declared.instr.Program.{Program}
+use Rattle.mage_instr.specs.declared.directive.MemProgram.{MemProgram}
 use Rattle.mage_instr.specs.Inputs.{input_widths_of}
 use Rattle.mage_linked.specs.Workers.{list_at}
+use Rattle.mage_carry.specs.declared.carry.Carry.{Carry}
+use Rattle.mage_carry.specs.declared.carry.Carry.TheVariants as carry
+use Rattle.mage_carry.specs.Carrying.{carries_of}
+use Rattle.mage_file.specs.declared.fault.FileFault.{FileFault}
+use Rattle.mage_file.specs.declared.fault.FileFault.TheVariants as spelled
+use Rattle.mage_file.specs.Grammar.{most_bytes, most_first_bytes, spelling_of, read_of, read_first_of}
+use Rattle.mage_rehome.specs.Rehomed.{rehomed_of}
+use Rattle.mage_verify.specs.declared.fault.VerifyFault.{VerifyFault}
+use Rattle.mage_verify.specs.declared.fault.VerifyFault.TheVariants as verified
+use Rattle.mage_verify.specs.Faults.{fault_of}
 use Rattle.mage_streams.specs.Garbling.{bytes_of}
 use Rattle.mage_streams.specs.Streams.{dealt_labels}
 use Rattle.mage_texts.specs.InputText.{inputs_of}
@@ -25,11 +36,13 @@ use Rattle.mage_pipe.specs.declared.fault.PlanFault.{PlanFault}
 use Rattle.mage_pipe.specs.declared.fault.PlanFault.TheVariants as plan
 use Rattle.mage_pipe.specs.declared.stats.WorkerStats.{WorkerStats}
 use Rattle.mage_pipe.specs.Loading.{loaded_of}
+use Rattle.mage_pipe.specs.MemoryProgram.{memory_program_of}
 use Rattle.mage_pipe.specs.Summary.{stats_of}
 use Rattle.mage_planner.specs.declared.refusal.Refusal.{Refusal}
 use Rattle.mage_planner.specs.declared.refusal.Refusal.TheVariants as refusal
+use Rattle.mage_planner.specs.declared.refusal.ProgramFault.TheVariants as wrong
 use Rattle.mage_planner.specs.SummaryText.{summary_text}
-use Rattle.mage_words.specs.Words.{Request, Solo, Stats, Deal, SoloRequest, StatsRequest, DealRequest, request_of}
+use Rattle.mage_words.specs.Words.{Request, Solo, Stats, Deal, Plan, Check, Upgrade, SoloRequest, StatsRequest, DealRequest, PlanRequest, CheckRequest, UpgradeRequest, request_of}
 
 -- a file as a fetch with a limit finds it
 pub data File : Type 0 where
@@ -55,6 +68,11 @@ pub record Found : Type 0 where
   pub garbler : File
   pub evaluator : File
   pub seed : File
+  pub program : File
+
+-- no file was read
+abbrev pub nothing_found : Found
+nothing_found = record { source = Absent; garbler = Absent; evaluator = Absent; seed = Absent; program = Absent }
 
 -- the bytes of a seed
 abbrev pub SEED_BYTES : ℕ
@@ -64,30 +82,33 @@ SEED_BYTES = 32
 abbrev pub INPUT_LIMIT : ℕ
 INPUT_LIMIT = 67108864
 
--- A source is no longer than a text may be. `stats` reads no input text, and `deal` none of the garbler.
+-- A source is no longer than a text may be, nor a memory program than its file. What a command doesn't read counts as absent.
 abbrev pub found_in : Files → Request → Found
 found_in files (Solo solo) = record {
   source = file_at files solo.source MOST_BYTES;
   garbler = file_named files solo.garbler INPUT_LIMIT;
   evaluator = file_named files solo.evaluator INPUT_LIMIT;
   seed = Absent;
+  program = Absent;
 }
-found_in files (Stats stats) = record {
-  source = file_at files stats.source MOST_BYTES;
-  garbler = Absent;
-  evaluator = Absent;
-  seed = Absent;
-}
+found_in files (Stats stats) = record nothing_found { source = file_at files stats.source MOST_BYTES }
 found_in files (Deal deal) = record {
   source = file_at files deal.source MOST_BYTES;
   garbler = Absent;
   evaluator = file_named files deal.evaluator INPUT_LIMIT;
   seed = file_at files deal.seed SEED_BYTES;
+  program = Absent;
 }
+found_in files (Plan plan) = record nothing_found { source = file_at files plan.source MOST_BYTES }
+found_in files (Check check) = record nothing_found {
+  source = file_at files check.source MOST_BYTES;
+  program = file_at files check.program most_bytes;
+}
+found_in files (Upgrade upgrade) = record nothing_found { program = file_at files upgrade.program most_first_bytes }
 
 -- where the words ask for nothing, no file is read
 abbrev pub found_for : Files → Option Request → Found
-found_for files None = record { source = Absent; garbler = Absent; evaluator = Absent; seed = Absent }
+found_for files None = nothing_found
 found_for files (Some request) = found_in files request
 
 -- one file that a command writes
@@ -228,10 +249,108 @@ deal_outcome found deal = do
   seed ← seed_of found.seed
   Ok (deals deal.labels loaded.program seed evaluator)
 
+-- ---- memory programs
+
+-- it writes the file of the memory program, and says what it costs
+abbrev pub plans : (out : List ℕ) → MemProgram → List WorkerStats → Done
+plans out program costs = record {
+  said = summary_text costs;
+  files = record { name = out; bytes = spelling_of program } ∷ [];
+}
+
+-- what `plan` does: it writes the memory program that the passes make of the source
+unfoldable pub plan_outcome : Found → PlanRequest → Result Done Refusal
+plan_outcome found plan = do
+  loaded ← source_of found.source
+  program ← or_limits (memory_program_of plan.limits loaded.program.workers)
+  costs ← costs_of plan.limits loaded
+  Ok (plans plan.out program costs)
+
+-- bytes that spell no memory program
+abbrev pub file_refusal : FileFault → Refusal
+file_refusal spelled.Long = refusal.MemoryProgram wrong.TooLong
+file_refusal spelled.Magic = refusal.MemoryProgram wrong.Magic
+file_refusal spelled.Version = refusal.MemoryProgram wrong.Version
+file_refusal (spelled.Short place) = refusal.MemoryProgram (wrong.Short place)
+file_refusal (spelled.Field place) = refusal.MemoryProgram (wrong.Field place)
+file_refusal (spelled.Extra place) = refusal.MemoryProgram (wrong.Extra place)
+file_refusal spelled.Memory = refusal.Memory
+
+abbrev pub or_file : {T : Type 0} → Result T FileFault → Result T Refusal
+or_file (Ok x) = Ok x
+or_file (Err fault) = Err (file_refusal fault)
+
+-- a memory program that can go wrong
+abbrev pub verify_refusal : VerifyFault → Refusal
+verify_refusal (verified.Range worker directive) = refusal.MemoryProgram (wrong.Range worker directive)
+verify_refusal (verified.SlotState worker directive) = refusal.MemoryProgram (wrong.SlotState worker directive)
+verify_refusal (verified.PageState worker directive) = refusal.MemoryProgram (wrong.PageState worker directive)
+verify_refusal (verified.Width worker directive) = refusal.MemoryProgram (wrong.Width worker directive)
+verify_refusal (verified.Links worker directive) = refusal.MemoryProgram (wrong.Links worker directive)
+verify_refusal verified.Memory = refusal.Memory
+
+abbrev pub unless_faulty : {T : Type 0} → Option VerifyFault → T → Result T Refusal
+unless_faulty None x = Ok x
+unless_faulty (Some fault) x = Err (verify_refusal fault)
+
+-- a file that is too long is refused as a whole
+abbrev pub long_program : Refusal
+long_program = refusal.MemoryProgram wrong.TooLong
+
+-- the memory program that a file spells
+unfoldable pub program_of : File → Result MemProgram Refusal
+program_of file = do
+  bytes ← bytes_or long_program file
+  or_file (read_of bytes)
+
+-- whether a memory program without a fault carries a program
+abbrev pub carry_of : Program → MemProgram → Result Carry Refusal
+carry_of program plan = unless_faulty (fault_of plan) (carries_of program plan)
+
+-- it carries the program, or the first directive that doesn't
+abbrev pub carried_or : Carry → Result Done Refusal
+carried_or carry.Yes = Ok (says (codes "carries\n"))
+carried_or (carry.No worker directive) = Err (refusal.CheckNo worker directive)
+
+-- what `check` does: it says that the memory program carries the source's program
+unfoldable pub check_outcome : Found → CheckRequest → Result Done Refusal
+check_outcome found check = do
+  loaded ← source_of found.source
+  program ← program_of found.program
+  carry ← carry_of loaded.program program
+  carried_or carry
+
+-- the memory program that a file of the first version spells
+unfoldable pub first_program_of : File → Result MemProgram Refusal
+first_program_of file = do
+  bytes ← bytes_or long_program file
+  or_file (read_first_of bytes)
+
+-- the memory program with store pages, unless it has a fault
+abbrev pub renamed_of : MemProgram → Result MemProgram Refusal
+renamed_of program = unless_faulty (fault_of program) (rehomed_of program)
+
+-- it writes the file of the memory program, and says nothing
+abbrev pub upgrades : (out : List ℕ) → MemProgram → Done
+upgrades out program = record {
+  said = [];
+  files = record { name = out; bytes = spelling_of program } ∷ [];
+}
+
+-- what `upgrade` does: it writes a memory program of the first version with store pages
+unfoldable pub upgrade_outcome : Found → UpgradeRequest → Result Done Refusal
+upgrade_outcome found upgrade = do
+  program ← first_program_of found.program
+  renamed ← renamed_of program
+  Ok (upgrades upgrade.out renamed)
+
 abbrev pub outcome_for : Found → Request → Result Done Refusal
 outcome_for found (Solo solo) = solo_outcome found solo
 outcome_for found (Stats stats) = stats_outcome found stats
 outcome_for found (Deal deal) = deal_outcome found deal
+outcome_for found (Plan plan) = plan_outcome found plan
+outcome_for found (Check check) = check_outcome found check
+outcome_for found (Upgrade upgrade) = upgrade_outcome found upgrade
 
 -- what a command does, or the first refusal in the order of work; an absent file stops it too
 unfoldable pub outcome_of : Found → List (List ℕ) → Result Done Refusal

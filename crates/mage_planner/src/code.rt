@@ -26,6 +26,8 @@ impl Refusal {
             Refusal::InputLine { .. } | Refusal::InputTooLong { .. } | Refusal::InputSeed => {
                 Status::InputText
             }
+            Refusal::MemoryProgram { .. } => Status::MemoryProgram,
+            Refusal::CheckNo { .. } => Status::CheckNo,
             Refusal::Desk => Status::Desk,
             Refusal::Memory => Status::Memory,
         }

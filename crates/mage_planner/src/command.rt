@@ -5,13 +5,16 @@ ghost use Rattle.mage_words.specs.Words.{LimitsAreInRange, bytes_of_words, reque
 ghost use Rattle.mage_words.specs.Answers.{request_view};
 ghost use Rattle.mage_planner.specs.Outcome.{Done, Found, found_in, says, outcome_for, outcome_of, outcome_in};
 ghost use Rattle.mage_planner.specs.Steps.{Gives, StepCounted, IsNoDeskFault};
-ghost use Rattle.mage_planner.specs.Work.{HasFewWorkers, dealt_by, done_of};
+ghost use Rattle.mage_planner.specs.Work.{HasFewWorkers, dealt_by, done_of, written_by};
 
 use crate::Refusal;
+use crate::check::check;
 use crate::deal::deal;
+use crate::plan::plan;
 use crate::solo::solo;
 use crate::stats::stats;
-use crate::work::{Dealing, Work};
+use crate::upgrade::upgrade;
+use crate::work::{Dealing, Work, Writing};
 use mage_base::Desk;
 use mage_words::{Request, WordsFault, read_words};
 use std::alloc::Global;
@@ -52,6 +55,9 @@ fn answer<'a, D: Desk>(
         Request::Solo(request) => said(solo(alloc, request, desk)),
         Request::Stats(request) => said(stats(alloc, request, desk)),
         Request::Deal(request) => dealt(deal(alloc, request, desk)),
+        Request::Plan(request) => written(plan(alloc, request, desk)),
+        Request::Check(request) => said(check(alloc, request, desk)),
+        Request::Upgrade(request) => written(upgrade(alloc, request, desk)),
     }
 }
 
@@ -79,6 +85,20 @@ fn dealt<'a>(dealing: Result<Dealing<'a>, Refusal>) -> Result<Work<'a>, Refusal>
 {
     match dealing {
         Ok(dealing) => Ok(Work::Deal(dealing)),
+        Err(refusal) => Err(refusal),
+    }
+}
+
+// A file is to be written.
+fn written<'a>(writing: Result<Writing<'a>, Refusal>) -> Result<Work<'a>, Refusal>
+    ensures gives { (steady : Bool) (outcome : Result Done Refusal)
+        → Gives steady written_by writing.entry outcome → Gives steady done_of result outcome }
+    ensures counts { (before now : ℕ) → StepCounted before now writing.entry
+        → StepCounted before now result }
+    ensures few { IfOk result HasFewWorkers }
+{
+    match writing {
+        Ok(writing) => Ok(Work::Write(writing)),
         Err(refusal) => Err(refusal),
     }
 }

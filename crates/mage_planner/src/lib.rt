@@ -1,6 +1,7 @@
 //! The planner's top call: what `mage_plan` does with the words of a command, over any desk.
 #![tactic(auto)]
 
+mod check;
 mod code;
 mod command;
 mod deal;
@@ -9,17 +10,21 @@ mod inputs;
 mod labels;
 mod line;
 mod perform;
+mod plan;
+mod program_line;
+mod programs;
 mod refusal;
 mod solo;
 mod sources;
 mod stats;
 mod status;
 mod top;
+mod upgrade;
 mod warning;
 mod work;
 
 pub use mage_texts::{InputFault, read_inputs};
-pub use refusal::Refusal;
+pub use refusal::{ProgramFault, Refusal};
 pub use status::Status;
 pub use top::planner;
 pub use warning::refuse;

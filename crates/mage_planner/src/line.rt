@@ -6,6 +6,7 @@ ghost use Rattle.mage_instr.specs.declared.replaced.Tight.TheVariants as tight;
 ghost use Rattle.mage_planner.specs.Lines.{kind_name, party_name, line_of};
 
 use crate::Refusal;
+use crate::program_line::{check_line, program_line};
 use mage_base::Memory;
 use mage_instr::{Party, Tight};
 use mage_lex::LangKind;
@@ -129,6 +130,8 @@ pub fn line_of(alloc: Global, refusal: Refusal) -> Result<CowStr<'static, Global
         Refusal::Language { kind, line, column } => language_line(alloc, kind, line, column)?,
         Refusal::Limits { worker, tight } => tight_line(alloc, worker, tight)?,
         Refusal::InputLine { party, line } => input_line(alloc, party, line)?,
+        Refusal::MemoryProgram { fault } => return program_line(alloc, fault),
+        Refusal::CheckNo { worker, directive } => check_line(alloc, worker, directive)?,
     };
     Ok(CowStr::Owned(written))
 }

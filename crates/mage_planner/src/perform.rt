@@ -2,13 +2,14 @@
 ghost use Rattle.std.specs.Prelude.{◌≡◌, ◌≤◌, length, IsTrue};
 ghost use Rattle.mage_instr.specs.Opcodes.{most_workers};
 ghost use Rattle.mage_planner.specs.Steps.{StepCounted, IsNoDeskFault};
-ghost use Rattle.mage_planner.specs.Work.{done_of, HasFewWorkers};
+ghost use Rattle.mage_planner.specs.Work.{done_of, written_by, HasFewWorkers};
 ghost use Rattle.mage_planner.specs.Outcome.{says};
 ghost use Rattle.mage_planner.specs.Writing.{Performs};
 
 use crate::Refusal;
+use crate::files::write_file;
 use crate::labels::deal_labels;
-use crate::work::Work;
+use crate::work::{Work, Writing};
 use mage_base::{Desk, Failed};
 use std::alloc::Global;
 
@@ -24,6 +25,20 @@ fn say<D: Desk>(desk: &mut D, text: &[u8]) -> Result<(), Refusal>
     }
 }
 
+// Writes a file, and then says the text, where there is one.
+fn write_and_say<D: Desk>(alloc: Global, desk: &mut D, writing: &Writing<'_>) -> Result<(), Refusal>
+    ensures performs { Performs (written_by writing.now) result
+        (D.tells desk.old) (D.tells desk.new) }
+    ensures steady { IsTrue (D.tells desk.old).steady
+        → length writing.now.text.items ≤ (D.tells desk.old).room → IsNoDeskFault result }
+{
+    write_file(alloc, desk, writing.name, &writing.bytes)?;
+    if writing.text.is_empty() {
+        return Ok(());
+    }
+    say(desk, &writing.text)
+}
+
 /// Does what a command comes to: says its text, or writes its files.
 pub fn perform<D: Desk>(alloc: Global, desk: &mut D, work: &Work<'_>) -> Result<(), Refusal>
     requires { HasFewWorkers work.now }
@@ -34,5 +49,6 @@ pub fn perform<D: Desk>(alloc: Global, desk: &mut D, work: &Work<'_>) -> Result<
     match work {
         Work::Say(text) => say(desk, text),
         Work::Deal(dealing) => deal_labels(alloc, desk, dealing),
+        Work::Write(writing) => write_and_say(alloc, desk, writing),
     }
 }

@@ -2,6 +2,34 @@
 use mage_instr::{Party, Tight};
 use mage_lex::LangKind;
 
+/// What is wrong with a memory program: its bytes, by the first fault in their order, with its offset from 0; or what its
+/// directives do, by the first fault that the verifier finds, with the worker and its directive, both from 0.
+#[derive(Clone, Copy, Debug, PartialEq, Eq)]
+pub enum ProgramFault {
+    /// The file is longer than a memory program may be.
+    TooLong,
+    /// The first field isn't that of a memory program.
+    Magic,
+    /// It is of another version.
+    Version,
+    /// The bytes end there.
+    Short { at: u64 },
+    /// The field there breaks its rule.
+    Field { at: u64 },
+    /// Bytes follow the last directive there.
+    Extra { at: u64 },
+    /// The directive names a frame, a slot, a store page or a wire that isn't there.
+    Range { worker: u16, directive: u32 },
+    /// The directive finds its slot in another state.
+    SlotState { worker: u16, directive: u32 },
+    /// The directive finds its store page in another state.
+    PageState { worker: u16, directive: u32 },
+    /// The directive receives another width than was sent.
+    Width { worker: u16, directive: u32 },
+    /// The worker waits at the directive for ever.
+    Links { worker: u16, directive: u32 },
+}
+
 /// Why a command isn't done.
 #[derive(Clone, Copy, Debug, PartialEq, Eq)]
 pub enum Refusal {
@@ -30,6 +58,16 @@ pub enum Refusal {
     },
     /// The file of the seed hasn't just 32 bytes.
     InputSeed,
+    /// The file of the memory program isn't one that can be run.
+    MemoryProgram {
+        fault: ProgramFault,
+    },
+    /// The memory program doesn't carry the source's program: the lowest worker that doesn't, and its first directive
+    /// that breaks a rule, or the number of its directives where something is left over.
+    CheckNo {
+        worker: u16,
+        directive: u32,
+    },
     /// The desk failed: a file that isn't there, or can't be read, or an answer that can't be said.
     Desk,
     /// There was no memory.

@@ -1,5 +1,5 @@
 // The source of a command: fetched, read and planned.
-ghost use Rattle.std.specs.Prelude.{◌≡◌, ◌≤◌, ℕ, true, length, All, IfSome, IfOk};
+ghost use Rattle.std.specs.Prelude.{◌≡◌, ◌≤◌, ℕ, List, Ok, true, length, All, IfSome, IfOk};
 ghost use Rattle.mage_instr.specs.Limits.{AreInRange};
 ghost use Rattle.mage_instr.specs.Opcodes.{most_workers};
 ghost use Rattle.mage_instr.specs.Sound.{IsSound};
@@ -38,7 +38,8 @@ fn of_language(fault: LangFault) -> Refusal
     }
 }
 
-fn of_plan(fault: PlanFault) -> Refusal
+/// What a fault of a plan comes to.
+pub fn of_plan(fault: PlanFault) -> Refusal
     ensures { result ≡ plan_refusal fault }
 {
     match fault {
@@ -116,6 +117,7 @@ pub fn read_source<D: Desk>(alloc: Global, desk: &mut D, name: &str) -> Result<L
     ensures told { IfSome (D.tells desk.old).files (λ files. Gives (D.tells desk.old).steady
         (λ loaded. loaded) result (source_of (file_at files name.now MOST_BYTES))) }
     ensures some { (file : File) × Gives true (λ loaded. loaded) result (source_of file) }
+    ensures read { IfOk result (λ loaded. (text : List ℕ) × (loaded_of text ≡ Ok loaded)) }
     ensures sound { IfOk result (λ loaded. All IsSound loaded.program.workers) }
     ensures few { IfOk result (λ loaded. length loaded.program.workers ≤ most_workers) }
     ensures cause { StepCounted (D.tells desk.old).faults (D.tells desk.new).faults result }

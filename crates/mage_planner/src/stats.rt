@@ -44,8 +44,8 @@ fn lines(alloc: Global, workers: &[WorkerStats]) -> Result<String, Memory>
     Ok(text)
 }
 
-// What is said of a summary.
-fn summary_text(alloc: Global, workers: &[WorkerStats]) -> Result<Vec<u8>, Refusal>
+/// What is said of a summary.
+pub fn summary_text(alloc: Global, workers: &[WorkerStats]) -> Result<Vec<u8>, Refusal>
     ensures quiet { (faults : ℕ) → StepCounted faults faults result }
     ensures no_fault { IsNoDeskFault result }
     ensures text { Gives true (λ text. says text.items) result

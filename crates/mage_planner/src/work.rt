@@ -11,6 +11,14 @@ pub struct Dealing<'a> {
     pub labels: &'a str,
 }
 
+/// A file to be written, and the text that is said once it is closed.
+#[derive(Drop)]
+pub struct Writing<'a> {
+    pub name: &'a str,
+    pub bytes: Vec<u8>,
+    pub text: Vec<u8>,
+}
+
 /// What a command does that isn't refused.
 #[derive(Drop)]
 pub enum Work<'a> {
@@ -18,4 +26,6 @@ pub enum Work<'a> {
     Say(Vec<u8>),
     /// To write label files.
     Deal(Dealing<'a>),
+    /// To write one file.
+    Write(Writing<'a>),
 }

@@ -11,9 +11,13 @@ mod desk;
 #[cfg(test)]
 mod language;
 #[cfg(test)]
+mod programs;
+#[cfg(test)]
 mod solo;
 #[cfg(test)]
 mod stats;
+#[cfg(test)]
+mod upgrades;
 #[cfg(test)]
 mod wide;
 #[cfg(test)]

@@ -21,7 +21,7 @@ use Rattle.mage_words.specs.Options.{OptionRule, rule_of}
 use Rattle.mage_words.specs.declared.command.CommandName.{CommandName}
 use Rattle.mage_words.specs.declared.command.CommandName.TheVariants as command
 use Rattle.mage_words.specs.Commands.{command_named, command_rule, rules_of}
-use Rattle.mage_words.specs.Words.{◌>>=◌, Pair, Request, asked_of, asked_of_pairs, bytes_of_words, command_in, limits_of, pairs_of, request_of, solo_of_values, stats_of_values, deal_of_values, takes, value_of}
+use Rattle.mage_words.specs.Words.{◌>>=◌, Pair, Request, asked_of, asked_of_pairs, bytes_of_words, command_in, limits_of, pairs_of, request_of, solo_of_values, stats_of_values, deal_of_values, plan_of_values, check_of_values, upgrade_of_values, takes, value_of}
 use Rattle.mage_words.specs.Clap.{are_apart, clap_app}
 use Rattle.mage_words.specs.Answers.{Reads, value_in}
 use Rattle.mage_words.proofs.Faultless.{none}
@@ -82,7 +82,7 @@ pairs_asked (word ∷ words) name h = go (command_named word) (pairs_of words) h
 -- what a command is asked for rests on the values of its options alone
 same_asked : (name : CommandName) (f g : OptionName → Option Text)
     → All (λ option. f option ≡ g option) (command_rule name).options → asked_of name f ≡ asked_of name g
-unfolding solo_of_values stats_of_values deal_of_values limits_of
+unfolding solo_of_values stats_of_values deal_of_values plan_of_values check_of_values upgrade_of_values limits_of
 same_asked command.Solo f g same =
     let at = λ (k : ℕ) (lt : k < 8). same k option.Source lt in
     rw (at 0 (omega arith), at 1 (omega arith), at 2 (omega arith), at 3 (omega arith), at 4 (omega arith), at 5 (omega arith), at 6 (omega arith), at 7 (omega arith)) refl
@@ -92,6 +92,15 @@ same_asked command.Stats f g same =
 same_asked command.Deal f g same =
     let at = λ (k : ℕ) (lt : k < 4). same k option.Source lt in
     rw (at 0 (omega arith), at 1 (omega arith), at 2 (omega arith), at 3 (omega arith)) refl
+same_asked command.Plan f g same =
+    let at = λ (k : ℕ) (lt : k < 6). same k option.Source lt in
+    rw (at 0 (omega arith), at 1 (omega arith), at 2 (omega arith), at 3 (omega arith), at 4 (omega arith), at 5 (omega arith)) refl
+same_asked command.Check f g same =
+    let at = λ (k : ℕ) (lt : k < 2). same k option.Source lt in
+    rw (at 0 (omega arith), at 1 (omega arith)) refl
+same_asked command.Upgrade f g same =
+    let at = λ (k : ℕ) (lt : k < 2). same k option.Source lt in
+    rw (at 0 (omega arith), at 1 (omega arith)) refl
 
 -- what holds of each row of some options
 each_option : (P : OptionRule → Type 0) (options : List OptionName) → All P (map rule_of options) → All (λ option. P (rule_of option)) options

@@ -17,7 +17,7 @@ use Rattle.mage_words.specs.declared.option.OptionName.{OptionName}
 use Rattle.mage_words.specs.declared.option.OptionName.TheVariants as option
 use Rattle.mage_words.specs.Commands.{command_named, rules_of}
 use Rattle.mage_words.specs.Options.{shortest_page, longest_page, rule_of}
-use Rattle.mage_words.specs.Words.{◌>>=◌, LimitsAreInRange, Pair, Request, Solo, SoloRequest, Stats, StatsRequest, Deal, asked_of, asked_of_pairs, driver_of, if_power_of_two, if_within, is_number, limits_of, number, number_in, pairs_of, request_of, solo_of_values, stats_of_values, deal_of_values, takes, value_of}
+use Rattle.mage_words.specs.Words.{◌>>=◌, LimitsAreInRange, Pair, Request, Solo, SoloRequest, Stats, StatsRequest, Deal, Plan, PlanRequest, Check, Upgrade, asked_of, asked_of_pairs, driver_of, if_power_of_two, if_within, is_number, limits_of, number, number_in, pairs_of, request_of, solo_of_values, stats_of_values, deal_of_values, plan_of_values, check_of_values, upgrade_of_values, takes, value_of}
 use Rattle.mage_words.specs.Answers.{Reads}
 use Rattle.mage_words.proofs.Rows.{both}
 use Rattle.clap.specs.Walk.{Text}
@@ -133,6 +133,14 @@ module _ (value : OptionName → Option Text) where
       let limits = then_some (limits_of value) _ stats source.2 in
       subst AreInRange (ap (λ o. (unwrap_or o stats).limits) limits.2) (limits_are limits.0 limits.1)
 
+  plan_limits : (plan : PlanRequest) → plan_of_values value ≡ Some plan → AreInRange plan.limits
+  unfolding plan_of_values
+  plan_limits plan is =
+      let source = then_some (value option.Source) _ plan is in
+      let out = then_some (value option.Out) _ plan source.2 in
+      let limits = then_some (limits_of value) _ plan out.2 in
+      subst AreInRange (ap (λ o. (unwrap_or o plan).limits) limits.2) (limits_are limits.0 limits.1)
+
   asked_limits : (name : CommandName) (request : Request) → asked_of name value ≡ Some request → LimitsAreInRange request
   asked_limits command.Solo request is =
       let solo = map_some Solo (solo_of_values value) request is in
@@ -143,6 +151,15 @@ module _ (value : OptionName → Option Text) where
   asked_limits command.Deal request is =
       let deal = map_some Deal (deal_of_values value) request is in
       subst (λ r. LimitsAreInRange r) deal.2 tt
+  asked_limits command.Plan request is =
+      let plan = map_some Plan (plan_of_values value) request is in
+      subst (λ r. LimitsAreInRange r) plan.2 (plan_limits plan.0 plan.1)
+  asked_limits command.Check request is =
+      let check = map_some Check (check_of_values value) request is in
+      subst (λ r. LimitsAreInRange r) check.2 tt
+  asked_limits command.Upgrade request is =
+      let upgrade = map_some Upgrade (upgrade_of_values value) request is in
+      subst (λ r. LimitsAreInRange r) upgrade.2 tt
 
 -- ---- what words ask for
 

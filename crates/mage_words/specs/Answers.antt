@@ -10,8 +10,11 @@ use Rattle.mage_words.specs.declared.request.Request.TheVariants as code
 use Rattle.mage_words.specs.declared.request.Solo as code_solo
 use Rattle.mage_words.specs.declared.request.Stats as code_stats
 use Rattle.mage_words.specs.declared.request.Deal as code_deal
+use Rattle.mage_words.specs.declared.request.Plan as code_plan
+use Rattle.mage_words.specs.declared.request.Check as code_check
+use Rattle.mage_words.specs.declared.request.Upgrade as code_upgrade
 use Rattle.mage_words.specs.Options.{rule_of}
-use Rattle.mage_words.specs.Words.{Request, Solo, SoloRequest, Stats, StatsRequest, Deal, DealRequest}
+use Rattle.mage_words.specs.Words.{Request, Solo, SoloRequest, Stats, StatsRequest, Deal, DealRequest, Plan, PlanRequest, Check, CheckRequest, Upgrade, UpgradeRequest}
 
 -- what the code's requests hold
 abbrev pub solo_view : code_solo.Solo → SoloRequest
@@ -34,10 +37,22 @@ deal_view deal = record {
   labels = deal.labels.now;
 }
 
+abbrev pub plan_view : code_plan.Plan → PlanRequest
+plan_view plan = record { source = plan.source.now; out = plan.out.now; limits = plan.limits }
+
+abbrev pub check_view : code_check.Check → CheckRequest
+check_view check = record { source = check.source.now; program = check.program.now }
+
+abbrev pub upgrade_view : code_upgrade.Upgrade → UpgradeRequest
+upgrade_view upgrade = record { program = upgrade.program.now; out = upgrade.out.now }
+
 abbrev pub request_view : code_request.Request → Request
 request_view (code.Solo solo) = Solo (solo_view solo)
 request_view (code.Stats stats) = Stats (stats_view stats)
 request_view (code.Deal deal) = Deal (deal_view deal)
+request_view (code.Plan plan) = Plan (plan_view plan)
+request_view (code.Check check) = Check (check_view check)
+request_view (code.Upgrade upgrade) = Upgrade (upgrade_view upgrade)
 
 -- the value that matches have for an option
 abbrev pub value_in : Found → OptionName → Option (List ℕ)

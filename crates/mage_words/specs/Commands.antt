@@ -28,10 +28,13 @@ command_rule command.Solo = command_row (codes "solo")
 command_rule command.Stats = command_row (codes "stats") (option.Source ∷ limit_options)
 command_rule command.Deal = command_row (codes "deal")
     (option.Source ∷ option.Evaluator ∷ option.Seed ∷ option.Labels ∷ [])
+command_rule command.Plan = command_row (codes "plan") (option.Source ∷ option.Out ∷ limit_options)
+command_rule command.Check = command_row (codes "check") (option.Source ∷ option.Program ∷ [])
+command_rule command.Upgrade = command_row (codes "upgrade") (option.Program ∷ option.Out ∷ [])
 
 -- all commands
 abbrev pub commands : List CommandName
-commands = command.Solo ∷ command.Stats ∷ command.Deal ∷ []
+commands = command.Solo ∷ command.Stats ∷ command.Deal ∷ command.Plan ∷ command.Check ∷ command.Upgrade ∷ []
 
 -- the command that a word names
 abbrev pub command_named : List ℕ → Option CommandName

@@ -45,6 +45,8 @@ rule_of option.Buffer = row (codes "buffer") (Number 0 most_slots) (Default (cod
 rule_of option.Ahead = row (codes "ahead") (Number 0 most_ahead) (Default (codes "64"))
 rule_of option.Seed = row (codes "seed") File Required
 rule_of option.Labels = row (codes "labels") File Required
+rule_of option.Program = row (codes "program") File Required
+rule_of option.Out = row (codes "out") File Required
 
 -- what a row of the code's table says
 abbrev pub absence_view : code_absence.Absence → Absence

@@ -145,23 +145,39 @@ pub record DealRequest : Type 0 where
   pub seed : List ℕ
   pub labels : List ℕ
 
+-- what `plan` is asked for
+pub record PlanRequest : Type 0 where
+  pub source : List ℕ
+  pub out : List ℕ
+  pub limits : Limits
+
+-- what `check` is asked for
+pub record CheckRequest : Type 0 where
+  pub source : List ℕ
+  pub program : List ℕ
+
+-- what `upgrade` is asked for
+pub record UpgradeRequest : Type 0 where
+  pub program : List ℕ
+  pub out : List ℕ
+
 -- what a command is asked for
 pub data Request : Type 0 where
   Solo : SoloRequest → Request
   Stats : StatsRequest → Request
   Deal : DealRequest → Request
+  Plan : PlanRequest → Request
+  Check : CheckRequest → Request
+  Upgrade : UpgradeRequest → Request
 
--- the name of the source's file
-abbrev pub source_in : Request → List ℕ
-source_in (Solo solo) = solo.source
-source_in (Stats stats) = stats.source
-source_in (Deal deal) = deal.source
-
--- what a plan may use is in range; `deal` makes no plan
+-- what a plan may use is in range, where a plan is to be made
 abbrev pub LimitsAreInRange : Request → Type 0
 LimitsAreInRange (Solo solo) = AreInRange solo.limits
 LimitsAreInRange (Stats stats) = AreInRange stats.limits
 LimitsAreInRange (Deal deal) = Unit {0}
+LimitsAreInRange (Plan plan) = AreInRange plan.limits
+LimitsAreInRange (Check check) = Unit {0}
+LimitsAreInRange (Upgrade upgrade) = Unit {0}
 
 -- Below, `value` has the value of each option.
 module _ (value : OptionName → Option (List ℕ)) where
@@ -212,11 +228,36 @@ module _ (value : OptionName → Option (List ℕ)) where
       labels = labels;
     })
 
+  -- what the values ask `plan` for
+  unfoldable pub plan_of_values : Option PlanRequest
+  plan_of_values = do
+    source ← value option.Source
+    out ← value option.Out
+    limits ← limits_of
+    Some (record { source = source; out = out; limits = limits })
+
+  -- what the values ask `check` for
+  unfoldable pub check_of_values : Option CheckRequest
+  check_of_values = do
+    source ← value option.Source
+    program ← value option.Program
+    Some (record { source = source; program = program })
+
+  -- what the values ask `upgrade` for
+  unfoldable pub upgrade_of_values : Option UpgradeRequest
+  upgrade_of_values = do
+    program ← value option.Program
+    out ← value option.Out
+    Some (record { program = program; out = out })
+
 -- what the values of its options ask a command for
 abbrev pub asked_of : CommandName → (OptionName → Option (List ℕ)) → Option Request
 asked_of command.Solo value = option_map Solo (solo_of_values value)
 asked_of command.Stats value = option_map Stats (stats_of_values value)
 asked_of command.Deal value = option_map Deal (deal_of_values value)
+asked_of command.Plan value = option_map Plan (plan_of_values value)
+asked_of command.Check value = option_map Check (check_of_values value)
+asked_of command.Upgrade value = option_map Upgrade (upgrade_of_values value)
 
 -- what pairs ask a command for
 abbrev pub asked_of_pairs : CommandName → List Pair → Option Request

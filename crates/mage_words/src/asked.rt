@@ -1,12 +1,12 @@
 // What the values of a command's options ask it for.
 ghost use Rattle.std.specs.Prelude.{◌≡◌, option_map};
 ghost use Rattle.clap.specs.Words.{found_of};
-ghost use Rattle.mage_words.specs.Words.{asked_of, solo_of_values, stats_of_values, deal_of_values};
-ghost use Rattle.mage_words.specs.Answers.{request_view, solo_view, stats_view, deal_view, value_in};
+ghost use Rattle.mage_words.specs.Words.{asked_of, solo_of_values, stats_of_values, deal_of_values, plan_of_values, check_of_values, upgrade_of_values};
+ghost use Rattle.mage_words.specs.Answers.{request_view, solo_view, stats_view, deal_view, plan_view, check_view, upgrade_view, value_in};
 
 use crate::command::CommandName;
 use crate::option::OptionName;
-use crate::request::{Deal, Request, Solo, Stats};
+use crate::request::{Check, Deal, Plan, Request, Solo, Stats, Upgrade};
 use crate::values::{driver_of, limits, value};
 use clap::ArgMatches;
 
@@ -51,6 +51,40 @@ fn deal_of<'a>(matches: &ArgMatches<'a>) -> Option<Deal<'a>>
     })
 }
 
+#[tactic(auto, unfolding(crate::specs::Words::plan_of_values))]
+fn plan_of<'a>(matches: &ArgMatches<'a>) -> Option<Plan<'a>>
+    ensures { option_map plan_view result ≡ plan_of_values (value_in (found_of matches.now)) }
+{
+    let source = value(matches, OptionName::Source)?;
+    let out = value(matches, OptionName::Out)?;
+    let limits = limits(matches)?;
+    Some(Plan {
+        source,
+        out,
+        limits,
+    })
+}
+
+#[tactic(auto, unfolding(crate::specs::Words::check_of_values))]
+fn check_of<'a>(matches: &ArgMatches<'a>) -> Option<Check<'a>>
+    ensures { option_map check_view result ≡ check_of_values (value_in (found_of matches.now)) }
+{
+    let source = value(matches, OptionName::Source)?;
+    let program = value(matches, OptionName::Program)?;
+    Some(Check { source, program })
+}
+
+#[tactic(auto, unfolding(crate::specs::Words::upgrade_of_values))]
+fn upgrade_of<'a>(matches: &ArgMatches<'a>) -> Option<Upgrade<'a>>
+    ensures { option_map upgrade_view result ≡ upgrade_of_values (value_in (found_of matches.now)) }
+{
+    let program = value(matches, OptionName::Program)?;
+    Some(Upgrade {
+        program,
+        out: value(matches, OptionName::Out)?,
+    })
+}
+
 /// What the values of the command's options ask it for.
 pub fn asked_of<'a>(command: CommandName, matches: &ArgMatches<'a>) -> Option<Request<'a>>
     ensures { option_map request_view result ≡ asked_of command (value_in (found_of matches.now)) }
@@ -59,5 +93,8 @@ pub fn asked_of<'a>(command: CommandName, matches: &ArgMatches<'a>) -> Option<Re
         CommandName::Solo => Some(Request::Solo(solo_of(matches)?)),
         CommandName::Stats => Some(Request::Stats(stats_of(matches)?)),
         CommandName::Deal => Some(Request::Deal(deal_of(matches)?)),
+        CommandName::Plan => Some(Request::Plan(plan_of(matches)?)),
+        CommandName::Check => Some(Request::Check(check_of(matches)?)),
+        CommandName::Upgrade => Some(Request::Upgrade(upgrade_of(matches)?)),
     }
 }

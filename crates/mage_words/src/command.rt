@@ -10,6 +10,9 @@ pub enum CommandName {
     Solo,
     Stats,
     Deal,
+    Plan,
+    Check,
+    Upgrade,
 }
 
 /// One row of the table: the command's word, and the options that it takes.
@@ -19,7 +22,14 @@ pub struct CommandRule {
     pub options: &'static [OptionName],
 }
 
-const COMMANDS: [CommandName; 3] = [CommandName::Solo, CommandName::Stats, CommandName::Deal];
+const COMMANDS: [CommandName; 6] = [
+    CommandName::Solo,
+    CommandName::Stats,
+    CommandName::Deal,
+    CommandName::Plan,
+    CommandName::Check,
+    CommandName::Upgrade,
+];
 
 const SOLO: [OptionName; 8] = [
     OptionName::Source,
@@ -47,6 +57,19 @@ const DEAL: [OptionName; 4] = [
     OptionName::Labels,
 ];
 
+const PLAN: [OptionName; 6] = [
+    OptionName::Source,
+    OptionName::Out,
+    OptionName::Page,
+    OptionName::Frames,
+    OptionName::Buffer,
+    OptionName::Ahead,
+];
+
+const CHECK: [OptionName; 2] = [OptionName::Source, OptionName::Program];
+
+const UPGRADE: [OptionName; 2] = [OptionName::Program, OptionName::Out];
+
 /// The row of a command. Its word names it, and no other command.
 pub fn command_rule(command: CommandName) -> CommandRule
     ensures row { command_view result ≡ command_rule command }
@@ -64,6 +87,18 @@ pub fn command_rule(command: CommandName) -> CommandRule
         CommandName::Deal => CommandRule {
             name: "deal",
             options: &DEAL,
+        },
+        CommandName::Plan => CommandRule {
+            name: "plan",
+            options: &PLAN,
+        },
+        CommandName::Check => CommandRule {
+            name: "check",
+            options: &CHECK,
+        },
+        CommandName::Upgrade => CommandRule {
+            name: "upgrade",
+            options: &UPGRADE,
         },
     }
 }

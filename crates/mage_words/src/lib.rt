@@ -16,5 +16,5 @@ mod values;
 mod words;
 
 pub use fault::WordsFault;
-pub use request::{Deal, Driver, Request, Solo, Stats};
+pub use request::{Check, Deal, Driver, Plan, Request, Solo, Stats, Upgrade};
 pub use words::read_words;

@@ -11,6 +11,8 @@ pub enum OptionName {
     Ahead,
     Seed,
     Labels,
+    Program,
+    Out,
 }
 
 /// What the value of an option has to be.

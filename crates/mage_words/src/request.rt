@@ -17,6 +17,12 @@ pub enum Request<'a> {
     Stats(Stats<'a>),
     /// To write the labels that the evaluator's inputs have.
     Deal(Deal<'a>),
+    /// To write the memory program of a source.
+    Plan(Plan<'a>),
+    /// To say whether a memory program carries a source.
+    Check(Check<'a>),
+    /// To write a memory program of version 1 in version 2.
+    Upgrade(Upgrade<'a>),
 }
 
 /// What `solo` is asked for.
@@ -51,4 +57,32 @@ pub struct Deal<'a> {
     pub seed: &'a str,
     /// What the names of the label files begin with.
     pub labels: &'a str,
+}
+
+/// What `plan` is asked for.
+#[derive(Clone, Copy)]
+pub struct Plan<'a> {
+    /// The file of the source.
+    pub source: &'a str,
+    /// The file that the memory program is written to.
+    pub out: &'a str,
+    pub limits: Limits,
+}
+
+/// What `check` is asked for.
+#[derive(Clone, Copy)]
+pub struct Check<'a> {
+    /// The file of the source.
+    pub source: &'a str,
+    /// The file of the memory program.
+    pub program: &'a str,
+}
+
+/// What `upgrade` is asked for.
+#[derive(Clone, Copy)]
+pub struct Upgrade<'a> {
+    /// The file of the memory program of version 1.
+    pub program: &'a str,
+    /// The file that the memory program of version 2 is written to.
+    pub out: &'a str,
 }

@@ -62,6 +62,8 @@ pub fn rule_of(option: OptionName) -> OptionRule
         ),
         OptionName::Seed => ("seed", Kind::File, Absence::Required),
         OptionName::Labels => ("labels", Kind::File, Absence::Required),
+        OptionName::Program => ("program", Kind::File, Absence::Required),
+        OptionName::Out => ("out", Kind::File, Absence::Required),
     };
     OptionRule {
         name,

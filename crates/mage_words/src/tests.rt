@@ -1,5 +1,5 @@
 // Words that ask for something, with the values that stand by default, and words that don't.
-use super::{Deal, Driver, Request, Solo, Stats, WordsFault, read_words};
+use super::{Check, Deal, Driver, Plan, Request, Solo, Stats, Upgrade, WordsFault, read_words};
 use mage_instr::Limits;
 use std::alloc::{AllocError, Global};
 use std::process::Abort;
@@ -34,6 +34,30 @@ fn stats_in(alloc: Global, words: &[String]) -> Option<Stats<'_>> {
 fn deal_in(alloc: Global, words: &[String]) -> Option<Deal<'_>> {
     match read_words(alloc, words) {
         Ok(Request::Deal(deal)) => Some(deal),
+        _ => None,
+    }
+}
+
+// What the words ask `plan` for, where they do.
+fn plan_in(alloc: Global, words: &[String]) -> Option<Plan<'_>> {
+    match read_words(alloc, words) {
+        Ok(Request::Plan(plan)) => Some(plan),
+        _ => None,
+    }
+}
+
+// What the words ask `check` for, where they do.
+fn check_in(alloc: Global, words: &[String]) -> Option<Check<'_>> {
+    match read_words(alloc, words) {
+        Ok(Request::Check(check)) => Some(check),
+        _ => None,
+    }
+}
+
+// What the words ask `upgrade` for, where they do.
+fn upgrade_in(alloc: Global, words: &[String]) -> Option<Upgrade<'_>> {
+    match read_words(alloc, words) {
+        Ok(Request::Upgrade(upgrade)) => Some(upgrade),
         _ => None,
     }
 }
@@ -356,6 +380,46 @@ fn files_of_deal(rt: HostRuntime) -> Result<(), Fail> {
         "deal --labels p --evaluator e --seed d --source s",
         Some("e"),
     )
+}
+
+#[test]
+fn words_that_ask_for_no_memory_program(rt: HostRuntime) -> Result<(), Fail> {
+    refused(
+        &rt,
+        rt.alloc(),
+        &[
+            "plan",
+            "plan --source s",
+            "plan --out o",
+            "plan --source s --out o --driver plain",
+            "plan --source s --out o --frames 0",
+            "plan --source s --out o --page 65536 --frames 57",
+            "plan --source s --out o --program p",
+            "check --source s",
+            "check --program p",
+            "check --source s --program p --frames 2",
+            "check --source s --program p --out o",
+            "upgrade --program p",
+            "upgrade --out o",
+            "upgrade --program p --out o --source s",
+            "upgrade --program p --out o --out o",
+        ],
+    )
+}
+
+#[test]
+fn files_of_memory_programs(rt: HostRuntime) -> Result<(), Fail> {
+    let words = words_of(rt.alloc(), "plan --out o --frames 2 --source s --buffer 1")?;
+    let plan = plan_in(rt.alloc(), &words).ok_or("refused")?;
+    assert!(rt; plan.source == "s" && plan.out == "o");
+    assert!(rt; plan.limits == limits(256, 2, 1, 64));
+    let words = words_of(rt.alloc(), "check --program p --source s")?;
+    let check = check_in(rt.alloc(), &words).ok_or("refused")?;
+    assert!(rt; check.source == "s" && check.program == "p");
+    let words = words_of(rt.alloc(), "upgrade --out o --program p")?;
+    let upgrade = upgrade_in(rt.alloc(), &words).ok_or("refused")?;
+    assert!(rt; upgrade.program == "p" && upgrade.out == "o");
+    Ok(())
 }
 
 // All options of `solo`, as words.

@@ -1,0 +1,6 @@
+use Rattle.std.proofs.Common.{refl}
+use Rattle.mage_planner.specs.Outcome.{Held}
+use Rattle.mage_planner.proofs.programs.fetch_program.Goals as goal
+
+pub returns-in-Ok-clause-some : goal.returns-in-Ok-clause-some
+returns-in-Ok-clause-some g c = (Held c.in-Ok.bytes.items, refl)
