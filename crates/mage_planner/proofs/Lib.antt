@@ -4,3 +4,5 @@ pub mod AnswerLemmas
 pub mod WordsLemmas
 pub mod WritingLemmas
 mod PerformLemmas
+mod UpgradeLemmas
+mod CarriedLemmas

@@ -7,3 +7,5 @@ pub mod Steps
 pub mod Warned
 pub mod Answer
 pub mod Writing
+pub mod Upgrading
+pub mod Checking

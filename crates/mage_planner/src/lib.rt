@@ -8,6 +8,7 @@ mod deal;
 mod files;
 mod inputs;
 mod labels;
+mod laws;
 mod line;
 mod perform;
 mod plan;
@@ -23,6 +24,7 @@ mod upgrade;
 mod warning;
 mod work;
 
+pub use laws::{earlier_files_come_to_todays, plans_are_carried, upgrades_keep_carried};
 pub use mage_texts::{InputFault, read_inputs};
 pub use refusal::{ProgramFault, Refusal};
 pub use status::Status;
