@@ -26,6 +26,8 @@ answers steady outcome before after (refusal.InputLine party line) h =
     (refusal.InputLine party line, h)
 answers steady outcome before after (refusal.InputTooLong party) h = (refusal.InputTooLong party, h)
 answers steady outcome before after refusal.InputSeed h = (refusal.InputSeed, h)
+answers steady outcome before after (refusal.MemoryProgram fault) h = (refusal.MemoryProgram fault, h)
+answers steady outcome before after (refusal.CheckNo worker directive) h = (refusal.CheckNo worker directive, h)
 answers steady outcome before after refusal.Desk h = (refusal.Desk, h)
 answers steady outcome before after refusal.Memory h = (refusal.Memory, h)
 

@@ -1,5 +1,5 @@
 -- Of the commands on memory programs: a refusal of a step is one of the whole work.
-use Rattle.std.proofs.Common.{◌≡◌, ◌≤◌, ◌*◌, true, length, Result, Ok, Err, ap, ◌∙◌, arith}
+use Rattle.std.proofs.Common.{◌≡◌, ◌≤◌, ◌*◌, ℕ, List, [], ◌∷◌, true, length, Result, Ok, Err, refl, ap, ap₂, ◌∙◌, arith}
 use Rattle.mage_chains.specs.Chains.{◌>>=◌}
 use Rattle.mage_accepted.specs.Accepting.{IsAccepted, directives_in}
 use Rattle.mage_carry.specs.declared.carry.Carry.{Carry}
@@ -11,10 +11,10 @@ use Rattle.mage_pipe.specs.declared.loaded.Loaded.{Loaded}
 use Rattle.mage_pipe.specs.declared.stats.WorkerStats.{WorkerStats}
 use Rattle.mage_pipe.specs.MemoryProgram.{memory_program_of}
 use Rattle.mage_words.specs.Words.{PlanRequest, CheckRequest, UpgradeRequest}
-use Rattle.std.specs.Prelude.{List}
 use Rattle.mage_planner.specs.declared.refusal.Refusal.{Refusal}
 use Rattle.mage_planner.specs.declared.refusal.Refusal.TheVariants as refusal
-use Rattle.mage_planner.specs.Outcome.{File, Absent, Found, nothing_found, Done, plans, source_of, costs_of, or_limits, program_of, carry_of, carried_or, first_program_of, renamed_of, upgrades, plan_outcome, check_outcome, upgrade_outcome}
+use Rattle.mage_planner.specs.Outcome.{File, Absent, Found, nothing_found, Done, says, plans, source_of, costs_of, or_limits, program_of, carry_of, carried_or, first_program_of, renamed_of, upgrades, plan_outcome, check_outcome, upgrade_outcome}
+use Rattle.mage_planner.specs.SummaryText.{summary_text}
 use Rattle.mage_planner.specs.Steps.{Refuses}
 use Rattle.mage_planner.proofs.StepLemmas.{only_source, at_first, after_first, both_done}
 
@@ -155,3 +155,27 @@ short_enough program accepted few =
     let long = (so_long program accepted.fields.counted).second in
     let workers = accepted.fields.few in
     omega (arith, long, workers, few)
+
+-- ---- what is written
+
+abbrev value_or : {T : Type 0} → T → Result T Refusal → T
+value_or x (Ok y) = y
+value_or x (Err why) = x
+
+-- the bytes of the memory program's file, and the text of what it costs, are what is written and then said
+pub plans_written : (out : List ℕ) (program : MemProgram) (costs : List WorkerStats) (bytes text : List ℕ)
+    → ◌≡◌ {A = Result (List ℕ) Refusal} (Ok (spelling_of program)) (Ok bytes)
+    → ◌≡◌ {A = Result Done Refusal} (Ok (says (summary_text costs))) (Ok (says text))
+    → ◌≡◌ {A = Result Done Refusal} (Ok (plans out program costs)) (Ok (record { said = text; files = record { name = out; bytes = bytes } ∷ [] }))
+plans_written out program costs bytes text spelled said =
+    let b : spelling_of program ≡ bytes = ap (λ (r : Result (List ℕ) Refusal). value_or [] r) spelled in
+    let t : summary_text costs ≡ text = ap (λ (r : Result Done Refusal). (value_or (says []) r).said) said in
+    ap₂ (λ (bs ts : List ℕ). Ok (record { said = ts; files = record { name = out; bytes = bs } ∷ [] })) b t
+
+-- the bytes of the memory program's file are what is written, and nothing is said
+pub upgrades_written : (out : List ℕ) (program : MemProgram) (bytes text : List ℕ)
+    → ◌≡◌ {A = Result (List ℕ) Refusal} (Ok (spelling_of program)) (Ok bytes) → text ≡ []
+    → ◌≡◌ {A = Result Done Refusal} (Ok (upgrades out program)) (Ok (record { said = text; files = record { name = out; bytes = bytes } ∷ [] }))
+upgrades_written out program bytes text spelled none =
+    let b : spelling_of program ≡ bytes = ap (λ (r : Result (List ℕ) Refusal). value_or [] r) spelled in
+    rw none (ap (λ (bs : List ℕ). Ok (record { said = []; files = record { name = out; bytes = bs } ∷ [] })) b)

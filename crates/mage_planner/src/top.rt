@@ -4,10 +4,13 @@ ghost use Rattle.mage_base.specs.Faults.{Rose};
 ghost use Rattle.mage_words.specs.Words.{bytes_of_words, request_of};
 ghost use Rattle.mage_parser.specs.Laws.{ReadingIsTheGrammar};
 ghost use Rattle.mage_pipe.specs.Least.{ReadsAreLeast};
+ghost use Rattle.mage_written.specs.Written.{PlansArePlans};
 ghost use Rattle.mage_planner.specs.declared.refusal.Refusal.TheVariants as refusals;
+ghost use Rattle.mage_planner.specs.Checking.{PlansAreCarried};
 ghost use Rattle.mage_planner.specs.Lines.{line_of};
 ghost use Rattle.mage_planner.specs.Outcome.{Found, outcome_of, outcome_in};
 ghost use Rattle.mage_planner.specs.Steps.{StepCounted, IsNoDeskFault};
+ghost use Rattle.mage_planner.specs.Upgrading.{EarlierFilesComeToTodays, UpgradesKeepCarried};
 ghost use Rattle.mage_planner.specs.Answer.{Answers, Works, WritesNoFile, AnswerCounted, refusal_of, IsOkOrMemory, IsWordsOrMemory, HasRoom};
 
 use crate::command::work;
@@ -44,11 +47,14 @@ fn run<D: Desk>(alloc: Global, words: &[String], desk: &mut D) -> Result<(), Ref
 
 /// Does what `mage_plan` does with these words (`mage_words::read_words`). `solo` reads the source and the input
 /// texts that they name from the desk, tests that a plan within the limits exists, evaluates the source in plain on
-/// one thread, and says its outputs. `stats` says what a plan for the source costs. `deal` reads the source, the evaluator's
-/// input text and a seed, and writes the labels that are dealt to each worker's evaluator, a file for each.
+/// one thread, and says its outputs. `stats` says what a plan for the source costs. `plan` writes this plan, a memory program, and
+/// says what it costs. `check` says that a memory program carries the source. `upgrade` writes a memory program of the file's
+/// first version in the second. `deal` reads the source, the evaluator's input text and a seed, and writes the labels that are
+/// dealt to each worker's evaluator, a file for each.
 ///
 /// The work goes in this order, and the first thing that is wrong decides the status: words (`Words`), source fetched
-/// (`Desk`), language (`Language`), limits (`Limits`; `deal` makes no plan), and for `solo` garbler text fetched and read
+/// (`Desk`), language (`Language`), limits (`Limits`; `deal` and `check` make no plan), for `check` and `upgrade` memory program
+/// fetched, read and verified (`Desk`, `MemoryProgram`), for `check` compared (`CheckNo`), for `solo` garbler text fetched and read
 /// (`Desk`, `InputText`), for `solo` and `deal` evaluator text likewise, for `deal` the seed likewise; run; then files are
 /// written and what is to be said is said (`Desk`). `Memory` may come at any step.
 ///
@@ -70,6 +76,16 @@ pub fn planner<D: Desk>(alloc: Global, words: &[String], desk: &mut D) -> Status
 
     // The reads that a summary says are the fewest that any plan of residency has.
     ensures fewest { ReadsAreLeast }
+
+    // What `plan` writes of a source is the file of a plan of it, and is read back from it; `check` finds that it carries
+    // the source.
+    ensures plans { PlansArePlans }
+    ensures carried { PlansAreCarried }
+
+    // What `upgrade` writes carries a program just where what it read does; and a file that the passes made when each page
+    // was stored under its own number becomes the one that `plan` writes now.
+    ensures upgrades { UpgradesKeepCarried }
+    ensures earlier { EarlierFilesComeToTodays }
 
     // Words comes just where the words ask for nothing; only want of memory may come in its place.
     ensures words { (result ≡ Status.Words → request_of (bytes_of_words words.now) ≡ None)

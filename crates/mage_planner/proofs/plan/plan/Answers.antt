@@ -2,7 +2,7 @@ use Rattle.std.proofs.lemmas.Result.{err_from_is_err_and}
 use Rattle.mage_words.specs.Answers.{plan_view}
 use Rattle.mage_planner.specs.Outcome.{plan_outcome}
 use Rattle.mage_planner.proofs.StepLemmas.{only_source}
-use Rattle.mage_planner.proofs.ProgramLemmas.{memory_alone, plan-source, plan-program, plan-all}
+use Rattle.mage_planner.proofs.ProgramLemmas.{memory_alone, plan-source, plan-program, plan-all, plans_written}
 use Rattle.mage_planner.proofs.plan.plan.Goals as goal
 
 pub returns-in_err-loaded-clause-some : goal.returns-in_err-loaded-clause-some
@@ -32,5 +32,8 @@ returns-in_err-text-clause-some g c =
 pub returns-clause-some : goal.returns-clause-some
 returns-clause-some g c =
     let source = c.in_ok-loaded.ensures.some in
-    let all = plan-all (plan_view c.args.plan) source.0 c.in_ok-loaded.loaded c.in_ok-planned.planned.program _ source.1 c.in_ok-planned.ensures.program c.in_ok-planned.ensures.costs in
-    (only_source source.0, rw all refl)
+    let all = plan-all (plan_view c.args.plan) source.0 c.in_ok-loaded.loaded c.in_ok-planned.planned.program _ source.1 c.in_ok-planned.ensures.program c.in_ok-planned.ensures.costs in (
+      only_source source.0,
+      rw all (plans_written c.args.plan.out.now c.in_ok-planned.planned.program _ c.in_ok-bytes.bytes.items c.in_ok-text.text.items
+          c.in_ok-bytes.ensures.bytes (rw c.deref.ensures.value at c.in_ok-text.ensures.text)),
+    )

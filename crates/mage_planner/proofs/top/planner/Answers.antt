@@ -3,6 +3,9 @@ use Rattle.mage_words.specs.Words.{bytes_of_words}
 use Rattle.mage_planner.specs.Outcome.{outcome_in, outcome_of}
 use Rattle.mage_parser.proofs.ReadingLaw.{reading_is_the_grammar}
 use Rattle.mage_pipe.proofs.LeastReads.{reads_are_least}
+use Rattle.mage_written.proofs.Files.{plans_are_plans}
+use Rattle.mage_planner.proofs.CarriedLemmas.{plans_are_carried}
+use Rattle.mage_planner.proofs.UpgradeLemmas.{upgrades_keep_carried, earlier_files_come_to_todays}
 use Rattle.mage_planner.proofs.AnswerLemmas.{answered, answered_files, steady_files}
 use Rattle.mage_planner.proofs.WordsLemmas.{words_done, words_refused}
 use Rattle.mage_planner.proofs.top.planner.Goals as goal
@@ -46,3 +49,27 @@ returns-in-Ok-clause-fewest g c = reads_are_least
 
 pub returns-in-Err-clause-fewest : goal.returns-in-Err-clause-fewest
 returns-in-Err-clause-fewest g c = reads_are_least
+
+pub returns-in-Ok-clause-plans : goal.returns-in-Ok-clause-plans
+returns-in-Ok-clause-plans g c = plans_are_plans
+
+pub returns-in-Err-clause-plans : goal.returns-in-Err-clause-plans
+returns-in-Err-clause-plans g c = plans_are_plans
+
+pub returns-in-Ok-clause-carried : goal.returns-in-Ok-clause-carried
+returns-in-Ok-clause-carried g c = plans_are_carried
+
+pub returns-in-Err-clause-carried : goal.returns-in-Err-clause-carried
+returns-in-Err-clause-carried g c = plans_are_carried
+
+pub returns-in-Ok-clause-upgrades : goal.returns-in-Ok-clause-upgrades
+returns-in-Ok-clause-upgrades g c = upgrades_keep_carried
+
+pub returns-in-Err-clause-upgrades : goal.returns-in-Err-clause-upgrades
+returns-in-Err-clause-upgrades g c = upgrades_keep_carried
+
+pub returns-in-Ok-clause-earlier : goal.returns-in-Ok-clause-earlier
+returns-in-Ok-clause-earlier g c = earlier_files_come_to_todays
+
+pub returns-in-Err-clause-earlier : goal.returns-in-Err-clause-earlier
+returns-in-Err-clause-earlier g c = earlier_files_come_to_todays

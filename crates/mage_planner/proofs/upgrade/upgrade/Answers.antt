@@ -1,8 +1,7 @@
-use Rattle.std.proofs.Common.{refl}
 use Rattle.std.proofs.lemmas.Result.{err_from_is_err_and}
 use Rattle.mage_words.specs.Answers.{upgrade_view}
 use Rattle.mage_planner.specs.Outcome.{upgrade_outcome}
-use Rattle.mage_planner.proofs.ProgramLemmas.{memory_alone, only_program, upgrade-program, upgrade-fault, upgrade-all}
+use Rattle.mage_planner.proofs.ProgramLemmas.{memory_alone, only_program, upgrade-program, upgrade-fault, upgrade-all, upgrades_written}
 use Rattle.mage_planner.proofs.upgrade.upgrade.Goals as goal
 
 pub returns-in_err-program-clause-some : goal.returns-in_err-program-clause-some
@@ -26,5 +25,8 @@ returns-in_err-bytes-clause-some g c =
 pub returns-clause-some : goal.returns-clause-some
 returns-clause-some g c =
     let file = c.in_ok-program.ensures.some in
-    let all = upgrade-all (upgrade_view c.args.upgrade) file.0 c.in_ok-program.program c.in_ok-program-2.program file.1 c.in_ok-program-2.ensures.program in
-    (only_program file.0, rw (all, c.in_ok-bytes.ensures.bytes) refl)
+    let all = upgrade-all (upgrade_view c.args.upgrade) file.0 c.in_ok-program.program c.in_ok-program-2.program file.1 c.in_ok-program-2.ensures.program in (
+      only_program file.0,
+      rw all (upgrades_written c.args.upgrade.out.now c.in_ok-program-2.program c.in_ok-bytes.bytes.items c.new.result.items
+          c.in_ok-bytes.ensures.bytes c.new.ensures.items),
+    )
