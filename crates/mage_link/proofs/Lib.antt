@@ -1,4 +1,4 @@
-mod PlaceLemmas
+pub mod PlaceLemmas
 mod QueueLemmas
 mod RowLemmas
 mod CallLemmas

@@ -1,5 +1,5 @@
 -- Links that are queues on one thread: the wires that lie in each.
-use Rattle.std.specs.Prelude.{◌≡◌, ◌++◌, ◌∷◌, ℕ, List, [], get_or, set, replicate, true, Option, None, Some, Result, Ok, Err}
+use Rattle.std.specs.Prelude.{◌≡◌, ◌<◌, ◌++◌, ◌∷◌, ℕ, List, [], length, get_or, set, replicate, true, Option, None, Some, Result, Ok, Err}
 use Rattle.mage_base.specs.Faults.{next_count}
 use Rattle.mage_network.specs.Network.{appended}
 use Rattle.mage_link.specs.declared.wire.Wire16.{Wire16}
@@ -26,6 +26,11 @@ place_at none rows row place = get_or (get_or rows row []) place none
 
 abbrev pub with_place : {X : Type 0} → List (List X) → (row place : ℕ) → X → List (List X)
 with_place rows row place x = set rows row (set (get_or rows row []) place x)
+
+-- there is such a place
+pub record HasPlace {X : Type 0} (rows : List (List X)) (row place : ℕ) : Type 0 where
+  pub within : row < length rows
+  pub inside : place < length (get_or rows row [])
 
 -- ---- the queues
 

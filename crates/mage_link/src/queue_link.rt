@@ -1,8 +1,8 @@
 // All links between workers, on one thread.
-ghost use Rattle.std.specs.Prelude.{◌≡◌, ◌≤◌, ◌↔◌, [], length, replicate, IfOk, IsErr, IsNone};
+ghost use Rattle.std.specs.Prelude.{◌≡◌, ◌≤◌, ◌<◌, ◌↔◌, [], length, replicate, IfOk, IsErr, IsNone};
 ghost use Rattle.mage_instr.specs.Opcodes.{most_workers};
 ghost use Rattle.mage_link.specs.Links.{CanUse, IsUnused, Sends, Receives};
-ghost use Rattle.mage_link.specs.Queues.{new_queues, queue_told, lies_in, Appends, TakesFirst};
+ghost use Rattle.mage_link.specs.Queues.{new_queues, queue_told, lies_in, HasPlace, Appends, TakesFirst};
 ghost use Rattle.mage_link.specs.Rows.{rows_of, new_link, link_in, HasLink, Pushes, Pops};
 
 use crate::link::Link;
@@ -70,6 +70,17 @@ impl QueueLink {
         self.capacity
     }
 
+    /// How many wires lie in the link from one worker to another.
+    pub fn lying(&self, source: u16, target: u16) -> usize
+        requires source { source < self.now.workers }
+        requires target { target < self.now.workers }
+        ensures count { result ≡ length (lies_in self.now source target) }
+        ensures within { length (lies_in self.now source target) ≤ self.now.capacity }
+        ensures there { HasPlace self.now.links source target }
+    {
+        lying_in(&self.links, source as usize, target as usize)
+    }
+
     /// How often an answer was `Full` or `None`. The count stays at its greatest value.
     pub fn waits(&self) -> u64
         ensures { result ≡ self.now.waits }
@@ -104,6 +115,15 @@ fn push(links: &mut Vec<Vec<Link>>, me: usize, to: usize, wire: Wire16) -> Resul
         Ok(()) => Ok(()),
         Err(_) => Err(Full),
     }
+}
+
+// How many wires lie in a link.
+fn lying_in(links: &Vec<Vec<Link>>, source: usize, target: usize) -> usize
+    requires { HasLink (rows_of links.now) source target }
+    ensures { result ≡ length (link_in (rows_of links.now) source target).queue.items }
+{
+    let link = &links[source][target];
+    link.queue.len()
 }
 
 // Takes the first wire of a link.

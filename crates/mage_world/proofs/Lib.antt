@@ -1,0 +1,13 @@
+pub mod SlotLemmas
+pub mod Standing
+pub mod Acting
+pub mod Computing
+pub mod WorldLemmas
+pub mod CoreLemmas
+pub mod Opening
+pub mod SlotCalls
+pub mod Handling
+pub mod Serving
+pub mod Passing
+pub mod KindLemmas
+pub mod RoomLemmas
