@@ -13,7 +13,7 @@ use Rattle.mage_driver.specs.Calls.{Told}
 use Rattle.mage_port.specs.Port.{PortTold, slot_state, is_held}
 use Rattle.mage_verify.specs.Runs.{Meets, ValuesFit}
 use Rattle.mage_verify.specs.State.{State, opening, after, after_all, state_before}
-use Rattle.mage_engine.specs.Seen.{Seen}
+use Rattle.mage_engine.specs.Seen.{Seen, IsEnded}
 use Rattle.mage_bank.specs.Bank.{bank_of, lengths_of, AreOf}
 use Rattle.mage_bank.specs.Bank.{Lies}
 use Rattle.mage_bank.specs.Jobs.{JobLies, Fits}
@@ -59,6 +59,11 @@ ready_of wb finished (Some fault) m e stands = absurd cc
 pub stands_of : {S : Type 0} (wb : ℕ) (finished : Bool) (f : Option MachineFault) (m : Seen S) → f ≡ None → IsReady wb finished m → Stands wb finished f m
 stands_of wb finished None m e ready = ready
 stands_of wb finished (Some fault) m e ready = absurd cc
+
+-- a machine that has ended has no fault
+pub ended_sound : {S : Type 0} (wb : ℕ) (finished : Bool) (f : Option MachineFault) (m : Seen S) → Stands wb finished f m → IsEnded m → f ≡ None
+ended_sound wb finished None m stands ended = refl
+ended_sound wb finished (Some fault) m stands ended = absurd (stands ended)
 
 module _ {S : Type 0} (wb : ℕ) (finished : Bool) (m : Seen S) (x : Directive) (at : IsAt m x) (stands : Stands wb finished m.fault m) where
   pub ready : IsReady wb finished m

@@ -11,3 +11,4 @@ mod Doing
 mod Passing
 pub mod Staying
 pub mod Along
+pub mod Tallying

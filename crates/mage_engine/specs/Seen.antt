@@ -13,9 +13,9 @@ use Rattle.mage_steps.specs.Engines.{Engine}
 use Rattle.mage_verify.specs.Leaving.{is_left}
 use Rattle.mage_verify.specs.Parts.{WorkerPart}
 
--- a machine: how many directives are done, and how many wires of the Send or Recv that comes next; the
+-- a machine's course: how many directives are done, and how many wires of the Send or Recv that comes next; the
 -- bytes of its frames; and the fault that stopped it
-pub record MachineState (D P : Type 0) : Type 0 where
+pub record CourseState (D P : Type 0) : Type 0 where
   pub part : WorkerPart
   pub driver : D
   pub port : P
@@ -24,7 +24,18 @@ pub record MachineState (D P : Type 0) : Type 0 where
   pub frames : List (List ℕ)
   pub fault : Option MachineFault
 
--- the same, by what its driver and its port tell, with its frames by their numbers and their lengths
+-- a machine: the same, and the port as it was handed in
+pub record MachineState (D P : Type 0) : Type 0 where
+  pub part : WorkerPart
+  pub driver : D
+  pub port : P
+  pub place : ℕ
+  pub wire : ℕ
+  pub frames : List (List ℕ)
+  pub fault : Option MachineFault
+  pub first : P
+
+-- a machine, by what its driver and its port tell, with its frames by their numbers and their lengths
 pub record Seen (S : Type 0) : Type 0 where
   pub part : WorkerPart
   pub driver : Told S
@@ -45,6 +56,19 @@ seen driver_tells port_tells machine = record {
   bank = bank_of machine.frames;
   lengths = lengths_of machine.frames;
   fault = machine.fault;
+}
+
+-- the same of a course
+abbrev pub course_seen : {D P S : Type 0} → (D → Told S) → (P → PortTold) → CourseState D P → Seen S
+course_seen driver_tells port_tells course = record {
+  part = course.part;
+  driver = driver_tells course.driver;
+  port = port_tells course.port;
+  place = course.place;
+  wire = course.wire;
+  bank = bank_of course.frames;
+  lengths = lengths_of course.frames;
+  fault = course.fault;
 }
 
 -- the directive at which it stands; none past the last one

@@ -5,23 +5,24 @@ ghost use Rattle.mage_instr.specs.declared.directive.Directive.TheVariants as en
 ghost use Rattle.mage_instr.specs.declared.op.Op.TheVariants as op;
 ghost use Rattle.mage_link.specs.Links.{LinkTold};
 ghost use Rattle.mage_engine.specs.declared.turn.Turn.TheVariants as turn;
-ghost use Rattle.mage_engine.specs.Seen.{seen, directive_at, IsEnded};
+ghost use Rattle.mage_engine.specs.Seen.{course_seen, directive_at, IsEnded};
 ghost use Rattle.mage_engine.specs.Ready.{Connects, IsAt};
 ghost use Rattle.mage_engine.specs.Steps.{Steps};
 
-use crate::{Kind, Machine, Turn, Why};
+use crate::course::Course;
+use crate::{Kind, Turn, Why};
 use mage_bank::{clear, compute, receive, send};
 use mage_driver::Driver;
 use mage_instr::{Job, MachineFault, Op};
 use mage_link::{Full, LinkPort, Wire16};
 use mage_port::SwapPort;
 
-impl<D: Driver, P: SwapPort> Machine<D, P> {
+impl<D: Driver, P: SwapPort> Course<D, P> {
     // A frame is filled with zeros.
     pub(crate) fn fresh(&mut self, frame: u16, _page: u32) -> Turn
-        requires { IsAt (seen D.tells P.tells self.old) (entry.Fresh frame _page) }
-        ensures { (link : LinkTold) → Steps D.rules (seen D.tells P.tells self.old)
-            (seen D.tells P.tells self.new) link link (Ok result) }
+        requires { IsAt (course_seen D.tells P.tells self.old) (entry.Fresh frame _page) }
+        ensures { (link : LinkTold) → Steps D.rules (course_seen D.tells P.tells self.old)
+            (course_seen D.tells P.tells self.new) link link (Ok result) }
     {
         clear(self.room.frames.as_mut_slice(), frame);
         self.place += 1;
@@ -35,8 +36,8 @@ impl<D: Driver, P: SwapPort> Machine<D, P> {
         link: &mut L,
     ) -> Result<Turn, MachineFault>
         requires links { Connects (L.tells link.old) self.old.part }
-        requires here { IsAt (seen D.tells P.tells self.old) (entry.Do job) }
-        ensures { Steps D.rules (seen D.tells P.tells self.old) (seen D.tells P.tells self.new)
+        requires here { IsAt (course_seen D.tells P.tells self.old) (entry.Do job) }
+        ensures { Steps D.rules (course_seen D.tells P.tells self.old) (course_seen D.tells P.tells self.new)
             (L.tells link.old) (L.tells link.new) result }
     {
         match job.op {
@@ -48,10 +49,10 @@ impl<D: Driver, P: SwapPort> Machine<D, P> {
 
     // The driver makes the circuit of an instruction.
     fn compute(&mut self, job: Job) -> Result<Turn, MachineFault>
-        requires here { IsAt (seen D.tells P.tells self.old) (entry.Do job) }
+        requires here { IsAt (course_seen D.tells P.tells self.old) (entry.Do job) }
         requires made { IsTrue (is_made job.op) }
-        ensures { (link : LinkTold) → Steps D.rules (seen D.tells P.tells self.old)
-            (seen D.tells P.tells self.new) link link result }
+        ensures { (link : LinkTold) → Steps D.rules (course_seen D.tells P.tells self.old)
+            (course_seen D.tells P.tells self.new) link link result }
     {
         let room = &mut self.room;
         match compute(
@@ -74,9 +75,9 @@ impl<D: Driver, P: SwapPort> Machine<D, P> {
     // Sends the next wire of a value.
     fn push<L: LinkPort>(&mut self, job: Job, link: &mut L) -> Turn
         requires links { Connects (L.tells link.old) self.old.part }
-        requires here { IsAt (seen D.tells P.tells self.old) (entry.Do job) }
+        requires here { IsAt (course_seen D.tells P.tells self.old) (entry.Do job) }
         requires sends { job.op ≡ op.Send }
-        ensures { Steps D.rules (seen D.tells P.tells self.old) (seen D.tells P.tells self.new)
+        ensures { Steps D.rules (course_seen D.tells P.tells self.old) (course_seen D.tells P.tells self.new)
             (L.tells link.old) (L.tells link.new) (Ok result) }
     {
         let bytes = send(
@@ -98,9 +99,9 @@ impl<D: Driver, P: SwapPort> Machine<D, P> {
     // Receives the next wire of a value.
     fn pop<L: LinkPort>(&mut self, job: Job, link: &mut L) -> Turn
         requires links { Connects (L.tells link.old) self.old.part }
-        requires here { IsAt (seen D.tells P.tells self.old) (entry.Do job) }
+        requires here { IsAt (course_seen D.tells P.tells self.old) (entry.Do job) }
         requires receives { job.op ≡ op.Recv }
-        ensures { Steps D.rules (seen D.tells P.tells self.old) (seen D.tells P.tells self.new)
+        ensures { Steps D.rules (course_seen D.tells P.tells self.old) (course_seen D.tells P.tells self.new)
             (L.tells link.old) (L.tells link.new) (Ok result) }
     {
         let me = self.part.worker();
@@ -124,10 +125,10 @@ impl<D: Driver, P: SwapPort> Machine<D, P> {
     // Past the last directive the driver is finished, once.
     pub(crate) fn end(&mut self) -> Result<Turn, MachineFault>
         requires sound { self.old.fault ≡ None }
-        requires past { directive_at (seen D.tells P.tells self.old) ≡ None }
-        ensures step { (link : LinkTold) → Steps D.rules (seen D.tells P.tells self.old)
-            (seen D.tells P.tells self.new) link link result }
-        ensures ended { IsEnded (seen D.tells P.tells self.old) → result ≡ Ok turn.Ended }
+        requires past { directive_at (course_seen D.tells P.tells self.old) ≡ None }
+        ensures step { (link : LinkTold) → Steps D.rules (course_seen D.tells P.tells self.old)
+            (course_seen D.tells P.tells self.new) link link result }
+        ensures ended { IsEnded (course_seen D.tells P.tells self.old) → result ≡ Ok turn.Ended }
     {
         if self.finished {
             return Ok(Turn::Ended);

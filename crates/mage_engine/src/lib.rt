@@ -1,6 +1,7 @@
 //! The machine: it goes through one worker's directives, over a port of pages and links to other workers.
 #![tactic(auto)]
 
+mod course;
 mod frames;
 mod instructions;
 mod laws;

@@ -1,4 +1,4 @@
-use Rattle.mage_engine.proofs.machine.Machine.go.Goals as goal
+use Rattle.mage_engine.proofs.course.Course.go.Goals as goal
 
 pub returns-in-Fresh : goal.returns-in-Fresh
 returns-in-Fresh g c = c.fresh.ensures (g.L.LinkPort.tells c.args.link.now)

@@ -9,7 +9,7 @@ use Rattle.mage_steps.specs.Frames.{sent_form, spot_of_wire, wire_at}
 use Rattle.mage_engine.proofs.Views.{seen_of}
 use Rattle.mage_engine.proofs.Advancing.{ready, few, value_in}
 use Rattle.mage_engine.proofs.Passing.{less, after_is, stands_wire, many_sent, few_targets, sent_fits, pushed}
-use Rattle.mage_engine.proofs.machine.Machine.push.Goals as goal
+use Rattle.mage_engine.proofs.course.Course.push.Goals as goal
 
 pub overflow_cast-to : goal.overflow_cast-to
 overflow_cast-to g c =

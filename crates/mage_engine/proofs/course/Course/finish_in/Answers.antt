@@ -9,7 +9,7 @@ use Rattle.mage_engine.proofs.Views.{seen_of, changed}
 use Rattle.mage_engine.proofs.Pages.{back_again}
 use Rattle.mage_engine.proofs.Advancing.{ready, meets, few, as_many, frame_whole}
 use Rattle.mage_engine.proofs.Finishing.{asked_read, brought, underway, finished_in, stands_in, waiting, stands_waiting, put_same}
-use Rattle.mage_engine.proofs.machine.Machine.finish_in.Goals as goal
+use Rattle.mage_engine.proofs.course.Course.finish_in.Goals as goal
 
 pub take-requires-clause-asked : goal.take-requires-clause-asked
 take-requires-clause-asked g c =

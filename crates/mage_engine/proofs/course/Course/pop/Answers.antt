@@ -9,7 +9,7 @@ use Rattle.mage_engine.proofs.Views.{seen_of, changed}
 use Rattle.mage_engine.proofs.Pages.{back_again}
 use Rattle.mage_engine.proofs.Advancing.{ready, few, value_in}
 use Rattle.mage_engine.proofs.Passing.{less, after_is, stands_wire, many_received, few_sources, received_fits, popped}
-use Rattle.mage_engine.proofs.machine.Machine.pop.Goals as goal
+use Rattle.mage_engine.proofs.course.Course.pop.Goals as goal
 
 pub overflow_cast-from : goal.overflow_cast-from
 overflow_cast-from g c =

@@ -3,7 +3,7 @@ use Rattle.mage_bank.specs.Bank.{contents}
 use Rattle.mage_engine.specs.Ready.{Stands}
 use Rattle.mage_engine.proofs.Views.{seen_of}
 use Rattle.mage_engine.proofs.Doing.{finished_move}
-use Rattle.mage_engine.proofs.machine.Machine.end.Goals as goal
+use Rattle.mage_engine.proofs.course.Course.end.Goals as goal
 
 pub returns-in-Ok-clause-step : goal.returns-in-Ok-clause-step
 returns-in-Ok-clause-step g c =

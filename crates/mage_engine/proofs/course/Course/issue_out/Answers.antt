@@ -10,7 +10,7 @@ use Rattle.mage_engine.proofs.Views.{seen_of, changed}
 use Rattle.mage_engine.proofs.Pages.{back_again}
 use Rattle.mage_engine.proofs.Advancing.{ready, meets, few, as_many, frame_whole}
 use Rattle.mage_engine.proofs.Issuing.{can_write, issued_out, stands_out, left_others}
-use Rattle.mage_engine.proofs.machine.Machine.issue_out.Goals as goal
+use Rattle.mage_engine.proofs.course.Course.issue_out.Goals as goal
 
 pub give-requires-clause-inside : goal.give-requires-clause-inside
 give-requires-clause-inside g c =

@@ -5,7 +5,7 @@ use Rattle.mage_engine.proofs.Views.{seen_of}
 use Rattle.mage_engine.proofs.Pages.{back_again}
 use Rattle.mage_engine.proofs.Advancing.{ready, few}
 use Rattle.mage_engine.proofs.Finishing.{asked_write, saved, underway_out, finished_out, stands_out, waiting, stands_waiting}
-use Rattle.mage_engine.proofs.machine.Machine.finish_out.Goals as goal
+use Rattle.mage_engine.proofs.course.Course.finish_out.Goals as goal
 
 pub try_finish-requires-clause-asked : goal.try_finish-requires-clause-asked
 try_finish-requires-clause-asked g c =

@@ -9,7 +9,7 @@ use Rattle.mage_engine.proofs.Views.{seen_of, changed}
 use Rattle.mage_engine.proofs.Pages.{back_again}
 use Rattle.mage_engine.proofs.Advancing.{ready, meets, few, as_many, frame_whole}
 use Rattle.mage_engine.proofs.Doing.{freshened, stands_fresh}
-use Rattle.mage_engine.proofs.machine.Machine.fresh.Goals as goal
+use Rattle.mage_engine.proofs.course.Course.fresh.Goals as goal
 
 pub clear-requires : goal.clear-requires
 clear-requires g c =

@@ -9,7 +9,7 @@ use Rattle.mage_engine.proofs.Views.{seen_of, changed}
 use Rattle.mage_engine.proofs.Pages.{back_again}
 use Rattle.mage_engine.proofs.Advancing.{ready, meets, few, values_lie}
 use Rattle.mage_engine.proofs.Doing.{did, stands_did}
-use Rattle.mage_engine.proofs.machine.Machine.compute.Goals as goal
+use Rattle.mage_engine.proofs.course.Course.compute.Goals as goal
 
 pub compute-requires-clause-lies : goal.compute-requires-clause-lies
 compute-requires-clause-lies g c κs outlives =

@@ -1,15 +1,15 @@
 use Rattle.std.proofs.Common.{ap, ◌+◌}
 use Rattle.mage_bank.specs.Bank.{contents}
 use Rattle.mage_port.specs.Port.{PortTold}
-use Rattle.mage_engine.specs.Seen.{seen}
+use Rattle.mage_engine.specs.Seen.{course_seen}
 use Rattle.mage_engine.proofs.Issuing.{can_read, issued_in, stands_in}
-use Rattle.mage_engine.proofs.machine.Machine.issue_in.Goals as goal
+use Rattle.mage_engine.proofs.course.Course.issue_in.Goals as goal
 
 pub ask_read-requires : goal.ask_read-requires
 ask_read-requires g c =
     let inside = c.self.inside in
     let at = rw (← c.self.view_is) at c.requires in
-    let old = seen g.D.Driver.tells g.P.SwapPort.tells (record {
+    let old = course_seen g.D.Driver.tells g.P.SwapPort.tells (record {
       part = inside.part;
       driver = inside.driver;
       port = inside.port;
@@ -24,7 +24,7 @@ pub invariant_of-self : goal.invariant_of-self
 invariant_of-self g c =
     let inside = c.self.inside in
     let at = rw (← c.self.view_is) at c.requires in
-    let old = seen g.D.Driver.tells g.P.SwapPort.tells (record {
+    let old = course_seen g.D.Driver.tells g.P.SwapPort.tells (record {
       part = inside.part;
       driver = inside.driver;
       port = inside.port;
@@ -42,7 +42,7 @@ pub returns : goal.returns
 returns g c =
     let inside = c.self.inside in
     let at = rw (← c.self.view_is) at c.requires in
-    let old = seen g.D.Driver.tells g.P.SwapPort.tells (record {
+    let old = course_seen g.D.Driver.tells g.P.SwapPort.tells (record {
       part = inside.part;
       driver = inside.driver;
       port = inside.port;
