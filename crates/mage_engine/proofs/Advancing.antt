@@ -20,7 +20,7 @@ use Rattle.mage_bank.specs.Jobs.{JobLies, Fits}
 use Rattle.mage_bank.proofs.Fitting.{count_is, frame_long, job_lies, value_lies}
 use Rattle.mage_instr.specs.declared.replaced.Job.{Job}
 use Rattle.mage_instr.specs.declared.replaced.Spot.{Spot}
-use Rattle.mage_engine.specs.Ready.{page_bytes_of, IsAt, IsReady, Stands, does_of, wires_of, wires_of_op, state_at}
+use Rattle.mage_engine.specs.Ready.{Takes, page_bytes_of, IsAt, IsReady, Stands, does_of, wires_of, wires_of_op, state_at}
 
 pub here_within : {X : Type 0} (xs : List X) (d : ℕ) (x : X) → slice_get xs d ≡ Some x → d < length xs
 here_within [] d x e = absurd cc
@@ -111,7 +111,7 @@ module _ {S : Type 0} (wb : ℕ) (finished : Bool) (m : Seen S) (x : Directive) 
     lengths = ready.lengths;
     bytes = bytes ∙ ready.bytes;
     count = count ∙ ready.count;
-    takes = λ page below. subst (λ (t : ℕ → Bool). IsTrue (t page)) (sym takes) (ready.takes page below);
+    takes = subst (λ (t : ℕ → Bool). Takes t m.part) (sym takes) ready.takes;
     slots = λ slot. slots slot ∙ ap (λ (v : State). Some (v.slot slot)) (sym next_is);
     held = λ page is. held page (ap (λ (v : State). v.stored page) (sym next_is) ∙ is);
     standing = runs ∙ sym running ∙ ready.standing;

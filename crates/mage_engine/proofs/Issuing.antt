@@ -1,4 +1,5 @@
 -- Transfers that are asked for.
+use Rattle.std.specs.Prelude.{IsTrue, IfSome}
 use Rattle.std.proofs.Common.{◌≡◌, ◌<◌, ◌+◌, ℕ, suc, Bool, true, false, cond, List, length, drop, Option, Some, None, nat_eq, refl, sym, ap, ◌∙◌, subst}
 use Rattle.std.proofs.lemmas.Bool.{eqb-true, eq-eqb, false≢true}
 use Rattle.std.proofs.lemmas.List.{length-set}
@@ -16,7 +17,7 @@ use Rattle.mage_verify.specs.declared.slot.Slot.TheVariants as does
 use Rattle.mage_verify.specs.Leaving.{is_left, leaves_first, leaves_at}
 use Rattle.mage_verify.specs.Runs as verifier
 use Rattle.mage_engine.specs.Seen.{Seen, flight_of, flights_in, engine_with, worker_with}
-use Rattle.mage_engine.specs.Ready.{IsAt, Stands, state_at}
+use Rattle.mage_engine.specs.Ready.{IsAt, Stands, state_at, page_moved}
 use Rattle.mage_engine.specs.Steps.{IsMove, Happens, heard_in}
 use Rattle.mage_engine.specs.declared.turn.Kind.TheVariants as kind
 use Rattle.mage_engine.proofs.Slots.{flights_after, does_after, idle_when, free_so}
@@ -26,13 +27,14 @@ use Rattle.mage_engine.proofs.Moving.{EventAt, Behind, moved_so, stands_so, same
 module _ {W : Type 0} (rules : Rules W) (wb : ℕ) (finished : Bool) (old : Seen rules.State) where
   -- a slot that stands idle may be asked
   can_ask : (x : Directive) (at : IsAt old x) (stands : Stands wb finished old.fault old) (slot page : ℕ) → slot < old.part.limits.buffer →
-      page < old.part.pages → (state_at old).slot slot ≡ does.Idle → verifier.IsStill old.part.limits.buffer (state_at old) page →
+      page_moved x ≡ Some page → (state_at old).slot slot ≡ does.Idle → verifier.IsStill old.part.limits.buffer (state_at old) page →
       CanAsk old.port slot page
-  can_ask x at stands slot page within below idle still =
+  can_ask x at stands slot page within moves idle still =
       let r = ready wb finished old x at stands in record {
         within = subst (λ n. slot < n) (sym r.count) within;
         idle = idle_when (slot_state old.port slot) (r.slots slot ∙ ap Some idle);
-        taken = r.takes page below;
+        taken = subst (λ (o : Option ℕ). IfSome o (λ p. IsTrue (old.port.takes p))) moves
+            (subst (λ (o : Option Directive). IfSome o (λ directive. IfSome (page_moved directive) (λ p. IsTrue (old.port.takes p)))) at.here (r.takes old.place));
         free = free_so old.port (state_at old) page (subst (λ n. verifier.IsStill n (state_at old) page) (sym r.count) still) r.slots;
       }
 
@@ -52,7 +54,7 @@ module _ {W : Type 0} (rules : Rules W) (wb : ℕ) (finished : Bool) (old : Seen
     met = meets wb finished old (entry.IssueIn slot page) at stands
 
     asked_in : CanAsk old.port slot page
-    asked_in = let m = met in can_ask (entry.IssueIn slot page) at stands slot page m.0 m.1 m.2 m.3
+    asked_in = let m = met in can_ask (entry.IssueIn slot page) at stands slot page m.0 refl m.2 m.3
 
     pub can_read : CanRead old.port slot page
     can_read = let m = met in record { can_ask = asked_in; held = (ready wb finished old (entry.IssueIn slot page) at stands).held page m.4 }
@@ -92,7 +94,7 @@ module _ {W : Type 0} (rules : Rules W) (wb : ℕ) (finished : Bool) (old : Seen
     asked_out : CanAsk old.port slot page
     asked_out =
         let m = meets wb finished old (entry.IssueOut slot frame page) at stands in
-        can_ask (entry.IssueOut slot frame page) at stands slot page m.0 m.2 m.3 m.4
+        can_ask (entry.IssueOut slot frame page) at stands slot page m.0 refl m.3 m.4
 
     pub can_write : length (old.bank frame) ≡ old.port.page_bytes → CanWrite old.port slot page (old.bank frame)
     can_write whole = record { can_ask = asked_out; whole = whole }

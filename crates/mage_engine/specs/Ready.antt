@@ -22,12 +22,23 @@ use Rattle.mage_engine.specs.Seen.{Seen, directive_at, IsEnded}
 abbrev pub page_bytes_of : (wire_bytes : ℕ) → WorkerPart → ℕ
 page_bytes_of wire_bytes part = part.limits.page * wire_bytes
 
--- The port has the part's slots, of which none was asked, pages of the part's length, and takes each page of its store.
+-- the page that a directive moves
+abbrev pub page_moved : Directive → Option ℕ
+page_moved (entry.IssueIn slot page) = Some page
+page_moved (entry.IssueOut slot frame page) = Some page
+page_moved _ = None
+
+-- each page that a part moves is taken
+abbrev pub Takes : (takes : ℕ → Bool) → WorkerPart → Type 0
+Takes takes part = (d : ℕ) → IfSome (slice_get part.directives d)
+    (λ directive. IfSome (page_moved directive) (λ page. IsTrue (takes page)))
+
+-- The port has the part's slots, of which none was asked, pages of the part's length, and takes each page that the part moves.
 pub record Serves (wire_bytes : ℕ) (port : PortTold) (part : WorkerPart) : Type 0 where
   pub unused : IsUnused port
   pub slots : length port.slots ≡ part.limits.buffer
   pub bytes : port.page_bytes ≡ page_bytes_of wire_bytes part
-  pub takes : (page : ℕ) → page < part.pages → IsTrue (port.takes page)
+  pub takes : Takes port.takes part
 
 -- a machine before its first directive: each frame is filled with zeros
 abbrev pub opened : {W : Type 0} (rules : Rules W) → WorkerPart → Told rules.State → PortTold → Seen rules.State
@@ -118,7 +129,7 @@ pub record IsReady {S : Type 0} (wire_bytes : ℕ) (finished : Bool) (machine : 
   pub lengths : machine.lengths ≡ replicate machine.part.limits.frames (page_bytes_of wire_bytes machine.part)
   pub bytes : machine.port.page_bytes ≡ page_bytes_of wire_bytes machine.part
   pub count : length machine.port.slots ≡ machine.part.limits.buffer
-  pub takes : (page : ℕ) → page < machine.part.pages → IsTrue (machine.port.takes page)
+  pub takes : Takes machine.port.takes machine.part
   pub slots : (slot : ℕ) → does_of (slot_state machine.port slot) ≡ Some ((state_at machine).slot slot)
   pub held : (page : ℕ) → (state_at machine).stored page ≡ true → IsTrue (is_held machine.port page)
   pub standing : machine.driver.standing ≡ (if finished then standing.Finished else standing.Running)

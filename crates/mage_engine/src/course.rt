@@ -74,6 +74,8 @@ impl<D: Driver, P: SwapPort> Course<D, P> {
         requires port { Serves D.WIRE_BYTES (P.tells port) part }
         ensures opened { IfOk result (λ course. course_seen D.tells P.tells course
             ≡ opened D.rules part (D.tells driver) (P.tells port)) }
+        ensures handed { IfOk result (λ course.
+            (course.driver ≡ driver) × (course.port ≡ port)) }
         ensures back { IfErr result (λ back.
             (back.0 ≡ part) × (back.1 ≡ driver) × (back.2 ≡ port)) }
     {

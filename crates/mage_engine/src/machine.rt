@@ -63,6 +63,8 @@ impl<D: Driver, P: SwapPort> Machine<D, P> {
         ensures opened { IfOk result (λ machine. seen D.tells P.tells machine
             ≡ opened D.rules part (D.tells driver) (P.tells port)) }
         ensures first { IfOk result (λ machine. machine.first ≡ port) }
+        ensures handed { IfOk result (λ machine.
+            (machine.driver ≡ driver) × (machine.port ≡ port)) }
         ensures back { IfErr result (λ back.
             (back.0 ≡ part) × (back.1 ≡ driver) × (back.2 ≡ port)) }
     {
