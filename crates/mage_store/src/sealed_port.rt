@@ -47,6 +47,7 @@ impl<P: SwapPort> SealedPort<P> {
         requires taken { All (λ page. IsTrue ((P.tells port).takes page)) pages.now }
         ensures port { IfOk result (λ sealed. port_told P.tells sealed
             ≡ record (P.tells port) { takes = λ page. list_any (λ p. p == page) pages.now }) }
+        ensures over { IfOk result (λ sealed. sealed.port ≡ port) }
         ensures back { IfErr result (λ back. back.0 ≡ port) }
     {
         match room(alloc, port.slots(), pages) {
