@@ -1,0 +1,17 @@
+mod Naming
+mod Porting
+mod Holding
+mod Going
+mod Starting
+mod Turning
+mod Waiting
+mod Stepping
+mod Turned
+mod Alike
+mod Joined
+mod Ending
+mod Whole
+mod Answered
+mod Reaching
+mod Finishing
+mod Lending

@@ -1,0 +1,20 @@
+// Laws of runs whose reads are answered.
+ghost use Rattle.std.specs.Prelude.{◌≡◌, ℕ, List, None};
+ghost use Rattle.mage_instr.specs.declared.directive.MemProgram.{MemProgram};
+ghost use Rattle.mage_directives.specs.Directives.{IsMemProgram};
+ghost use Rattle.mage_network.specs.Workers.{Stops};
+ghost use Rattle.mage_steps.specs.Core.{answered_act, answered_after};
+ghost use Rattle.mage_verify.specs.Faults.{fault_of};
+ghost use Rattle.mage_verified_runs.specs.Turns.{verified_turns};
+
+use mage_driver::Driver;
+
+/// The joint run of a memory program without a fault ends in every worker also where its reads are answered, right or wrong:
+/// which turns can be made doesn't depend on what pages hold.
+pub fn answered_joint_runs_of_verified_programs_end<D: Driver>()
+    ensures { (plan : MemProgram) (drivers : ℕ → D.rules.State)
+        (answers : ℕ → ℕ → List (List ℕ)) → IsMemProgram plan → fault_of plan ≡ None → (n : ℕ)
+        → answered_act D.rules plan n
+        (answered_after D.rules plan drivers answers (verified_turns plan.workers) n).state
+        ≡ Stops }
+{}
