@@ -64,6 +64,7 @@ pub fn sealed_for(
     ensures { IfOk result (λ port. Serves 1
         (sealed.port_told (serial.port_told log_told) port) part.now) }
 {
+    let _directives = part.directives();
     if part.store_pages() > 1 {
         return Err(Memory);
     }

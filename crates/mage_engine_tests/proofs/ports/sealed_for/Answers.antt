@@ -10,4 +10,4 @@ returns-in-Ok c =
     let above = c.if-store_pages-gt1.false in
     let pages = c.store_pages.ensures in
     let few : c.args.part.now.pages ≤ 1 = omega (arith, above, pages) in
-    sealed_serves (serial.port_told log_told c.in_ok-port.port) (sealed.port_told (serial.port_told log_told) c.in-Ok.sealed) 1 c.args.part.now c.in_ok-port.ensures c.in-Ok.ensures.port few
+    sealed_serves (serial.port_told log_told c.in_ok-port.port) (sealed.port_told (serial.port_told log_told) c.in-Ok.sealed) 1 c.args.part.now c.directives-directives.ensures.runs c.in_ok-port.ensures c.in-Ok.ensures.port few
