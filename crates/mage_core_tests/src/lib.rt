@@ -1,0 +1,11 @@
+//! Tests of the serial run: small memory programs in plain, over stores in memory.
+#![tactic(auto)]
+
+mod one;
+mod programs;
+#[cfg(test)]
+mod tests;
+mod two;
+
+pub use one::{Alone, run_alone};
+pub use two::{Pair, Worker, run_pair};
