@@ -213,7 +213,7 @@ const LONG: &[u8] = b"workers 2; const N = 128; const M = 1; array t: u32[M] = l
 
 // The four bytes at a place.
 fn number_at(file: &[u8], place: usize) -> Option<u32> {
-    let bytes = file.get(place..place + 4)?;
+    let bytes = file.get(place..)?.get(..4)?;
     let mut number = 0u32;
     for byte in bytes {
         number = (number << 8) | u32::from(*byte);
