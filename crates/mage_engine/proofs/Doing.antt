@@ -13,7 +13,7 @@ use Rattle.mage_network.specs.Slots.{Acts}
 use Rattle.mage_network.specs.Reading.{hears_in}
 use Rattle.mage_driver.specs.declared.standing.Standing.TheVariants as standing
 use Rattle.mage_driver.specs.Rules.{Rules}
-use Rattle.mage_driver.specs.Calls.{Told, Finish, Answered, call_of}
+use Rattle.mage_driver.specs.Calls.{Told, Finish, Answered, NoneIsDue, call_of}
 use Rattle.mage_driver.specs.Circuits.{Made}
 use Rattle.mage_bank.specs.Jobs.{circuit_on}
 use Rattle.mage_link.specs.Links.{LinkTold}
@@ -23,7 +23,7 @@ use Rattle.mage_verify.specs.Leaving.{is_left}
 use Rattle.mage_engine.specs.declared.turn.Kind.TheVariants as kind
 use Rattle.mage_engine.specs.Seen.{Seen, directive_at, is_finished, engine_with, worker_with, HoldSame}
 use Rattle.mage_engine.specs.Ready.{IsAt, Stands, wires_of, wires_of_op}
-use Rattle.mage_engine.specs.Steps.{IsMove, Happens, OverLink, AtLink, AtPort, kind_of, kind_of_op, place_after, wire_after, standing_after}
+use Rattle.mage_engine.specs.Steps.{IsMove, Happens, OverLink, AtLink, AtPort, kind_of, kind_of_op, place_after, wire_after, standing_after, calls_of, next_with}
 use Rattle.mage_engine.proofs.Advancing.{left_here, ready, ready_of, running, next_ready}
 use Rattle.mage_engine.proofs.Using.{circuit_same, stored_same, other_before}
 use Rattle.mage_engine.proofs.Moving.{EventAt, Behind, moved_so, stands_so, same_driver}
@@ -49,6 +49,7 @@ module _ {W : Type 0} (rules : Rules W) (wb : ℕ) (finished : Bool) (old : Seen
       moved_so rules old (entry.Fresh frame page) at wb finished stands refl new old.driver old.port clean kind.Do is refl
       (same_driver rules old (entry.Fresh frame page) at wb finished stands refl) refl link refl
       (λ told bank same. (put bank frame (cleared rules old.part.limits.page), fresh_holds bank same, (refl, refl, refl)))
+      (λ told. tt)
 
   pub stands_fresh : (new : Seen rules.State) → new ≡ record old { place = old.place + 1; bank = clean } → Stands wb finished old.fault new
   stands_fresh new is =
@@ -81,6 +82,13 @@ module _ {W : Type 0} (rules : Rules W) (wb : ℕ) (old : Seen rules.State) (sou
         refl,
       ))
 
+  end_passed : IsTrue old.driver.told → NoneIsDue rules (calls_of rules (next_with rules old old.bank))
+  end_passed told =
+      subst (λ (o : Option Directive). NoneIsDue rules (calls_of rules (doing_at rules old.part.limits.page o (engine_with old old.bank)))) (sym past)
+      (subst (λ (b : Bool). NoneIsDue rules (calls_of rules (Acts (cond b (ends rules (record (engine_with old old.bank) { is_finished = true }))
+      (Moves (call_of rules old.driver.state Finish ∷ []) (finishes rules (engine_with old old.bank)))))))
+      (sym (ap is_finished runs_still)) (answered.passed told))
+
   pub finished_move : (link : LinkTold) → IsMove rules old (record old { driver = driver }) link link kind.Do
   finished_move link = record {
     of_kind = ap kind_of (sym past);
@@ -89,6 +97,7 @@ module _ {W : Type 0} (rules : Rules W) (wb : ℕ) (old : Seen rules.State) (sou
     driver = answered.rest ∙ ap (λ (o : Option Directive). record old.driver { state = driver.state; standing = standing_after o }) (sym past);
     rest = ap (λ (o : Option Directive). record old { driver = driver; place = place_after o old.wire old.place; wire = wire_after o old.wire }) (sym past);
     event = λ told bank same. (bank, same, end_happens link bank told);
+    passed = λ told. end_passed told;
   }
 
 -- ---- an instruction that the driver makes
@@ -143,9 +152,11 @@ module _ {W : Type 0} (rules : Rules W) (wb : ℕ) (finished : Bool) (old : Seen
   pub did : (new : Seen rules.State) → new ≡ record old { driver = driver; place = old.place + 1; bank = bank' } →
       (IsTrue old.driver.told → driver.state ≡ (circuit_on rules job old.bank old.driver.state).state) →
       (IsTrue old.driver.told → bank' ≡ with_result rules job old.bank (circuit_on rules job old.bank old.driver.state).wires) →
+      (IsTrue old.driver.told → NoneIsDue rules (circuit_on rules job old.bank old.driver.state).calls) →
       (link : LinkTold) → IsMove rules old new link link kind.Do
-  did new is reached stored link =
+  did new is reached stored passed link =
       moved_so rules old (entry.Do job) at wb finished stands one new driver old.port bank' kind.Do is (of_do job.op made) runs refl link (beside_link job.op made job.imm old.part.worker link) event
+      (λ told. subst (λ (a : Acting rules). NoneIsDue rules (calls_of rules (Acts a))) (computes_when rules job.op made job (engine_with old old.bank)) (passed told))
     where
       running_both : is_finished old.driver.standing ≡ is_finished driver.standing
       running_both = ap is_finished (running wb finished old (entry.Do job) at stands ∙ sym (ap (λ (d : Told rules.State). d.standing) runs))

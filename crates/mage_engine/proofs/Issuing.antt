@@ -76,6 +76,7 @@ module _ {W : Type 0} (rules : Rules W) (wb : ℕ) (finished : Bool) (old : Seen
     issued_in new is link =
         moved_so rules old (entry.IssueIn slot page) at wb finished stands refl new old.driver (with_state old.port slot (AskedRead page)) old.bank kind.Ask is refl
         (same_driver rules old (entry.IssueIn slot page) at wb finished stands refl) refl link refl (λ told. event_in link)
+        (λ told. tt)
 
     pub stands_in : (new : Seen rules.State) →
         new ≡ record old { port = with_state old.port slot (AskedRead page); place = old.place + 1 } →
@@ -133,6 +134,7 @@ module _ {W : Type 0} (rules : Rules W) (wb : ℕ) (finished : Bool) (old : Seen
     issued_out new filled others is link =
         moved_so rules old (entry.IssueOut slot frame page) at wb finished stands refl new old.driver (with_state old.port slot (AskedWrite page (old.bank frame))) filled kind.Ask is refl
         (same_driver rules old (entry.IssueOut slot frame page) at wb finished stands refl) refl link refl (λ told. event_out filled others link)
+        (λ told. tt)
 
     pub stands_out : (new : Seen rules.State) (filled : ℕ → List ℕ) →
         new ≡ record old { port = with_state old.port slot (AskedWrite page (old.bank frame)); place = old.place + 1; bank = filled } →

@@ -5,14 +5,14 @@ use Rattle.mage_instr.specs.declared.directive.Directive.{Directive}
 use Rattle.mage_network.specs.Reading.{hears_in}
 use Rattle.mage_driver.specs.declared.standing.Standing.TheVariants as standing
 use Rattle.mage_driver.specs.Rules.{Rules}
-use Rattle.mage_driver.specs.Calls.{Told}
+use Rattle.mage_driver.specs.Calls.{Told, NoneIsDue}
 use Rattle.mage_link.specs.Links.{LinkTold}
 use Rattle.mage_port.specs.Port.{PortTold}
 use Rattle.mage_steps.specs.Engines.{doing_of, doing_at}
 use Rattle.mage_engine.specs.declared.turn.Kind.{Kind}
 use Rattle.mage_engine.specs.Seen.{Seen, directive_at, engine_with, worker_with, HoldSame}
 use Rattle.mage_engine.specs.Ready.{IsAt, IsReady, Stands, wires_of}
-use Rattle.mage_engine.specs.Steps.{kind_of, place_after, wire_after, standing_after, AtPort, AtLink, Happens, IsEvent, IsMove}
+use Rattle.mage_engine.specs.Steps.{kind_of, place_after, wire_after, standing_after, AtPort, AtLink, Happens, IsEvent, IsMove, calls_of, next_with}
 use Rattle.mage_engine.proofs.Advancing.{wire_within, running, stands_of}
 
 module _ {W : Type 0} (rules : Rules W) (old : Seen rules.State) (x : Directive) (at : IsAt old x) where
@@ -34,6 +34,11 @@ module _ {W : Type 0} (rules : Rules W) (old : Seen rules.State) (x : Directive)
             (record { finished = old.port.finished; link = before })
             (record { finished = new.port.finished; link = after }) (worker_with new found.0)) (sym at.here) found.2,
       )
+
+  pub passed_so : NoneIsDue rules (calls_of rules (doing_of rules old.part.limits.page x (engine_with old old.bank))) →
+      NoneIsDue rules (calls_of rules (next_with rules old old.bank))
+  passed_so passed = subst (λ (o : Option Directive). NoneIsDue rules (calls_of rules (doing_at rules old.part.limits.page o (engine_with old old.bank))))
+      (sym at.here) passed
 
   module _ (wb : ℕ) (finished : Bool) (stands : Stands wb finished old.fault old) (one : wires_of (Some x) ≡ 1) where
     -- the machine behind the directive
@@ -61,8 +66,10 @@ module _ {W : Type 0} (rules : Rules W) (old : Seen rules.State) (x : Directive)
         new ≡ record old { driver = driver; port = port; place = old.place + 1; bank = bank } →
         moved ≡ kind_of (Some x) → driver ≡ record old.driver { state = driver.state; standing = standing.Running } →
         AtPort (Some x) old.bank bank old.port port → (link : LinkTold) → AtLink (Some x) old.part.worker link link →
-        (IsTrue old.driver.told → EventAt (Behind driver port bank) link link) → IsMove rules old new link link moved
-    moved_so new driver port bank moved is kind runs ported link linked event =
+        (IsTrue old.driver.told → EventAt (Behind driver port bank) link link) →
+        (IsTrue old.driver.told → NoneIsDue rules (calls_of rules (doing_of rules old.part.limits.page x (engine_with old old.bank)))) →
+        IsMove rules old new link link moved
+    moved_so new driver port bank moved is kind runs ported link linked event passed =
         subst (λ (n : Seen rules.State). IsMove rules old n link link moved) (sym (is ∙ behind_is driver port bank)) (record {
           of_kind = kind ∙ ap kind_of (sym at.here);
           port = subst (λ (o : Option Directive). AtPort o old.bank bank old.port port) (sym at.here) ported;
@@ -70,6 +77,7 @@ module _ {W : Type 0} (rules : Rules W) (old : Seen rules.State) (x : Directive)
           driver = runs ∙ ap (λ (o : Option Directive). record old.driver { state = driver.state; standing = standing_after o }) (sym at.here);
           rest = ap₂ (λ (p w : ℕ). record old { driver = driver; port = port; place = p; wire = w; bank = bank }) place_is wire_is;
           event = λ told. event_so (Behind driver port bank) link link (event told);
+          passed = λ told. passed_so (passed told);
         })
 
     pub stands_so : (new : Seen rules.State) (driver : Told rules.State) (port : PortTold) (bank : ℕ → List ℕ) →

@@ -13,19 +13,20 @@ use Rattle.mage_directives.specs.Directives.{LinksTo}
 use Rattle.mage_network.specs.Slots.{Acts}
 use Rattle.mage_network.specs.Reading.{hears_in}
 use Rattle.mage_driver.specs.Rules.{Rules}
+use Rattle.mage_driver.specs.Calls.{NoneIsDue}
 use Rattle.mage_bank.specs.Jobs.{Fits}
 use Rattle.mage_link.specs.Links.{LinkTold, after_send, after_receive}
 use Rattle.mage_steps.specs.Frames.{spot_of_wire, wire_at, with_wires, sent_form, received_form}
-use Rattle.mage_steps.specs.Engines.{Engine, advanced, no_spot, act_of_op}
+use Rattle.mage_steps.specs.Engines.{Engine, advanced, no_spot, act_of_op, doing_of}
 use Rattle.mage_verify.specs.Leaving.{is_left}
 use Rattle.mage_engine.specs.declared.turn.Kind.{Kind}
 use Rattle.mage_engine.specs.declared.turn.Kind.TheVariants as kind
 use Rattle.mage_engine.specs.Seen.{Seen, engine_with, worker_with, HoldSame}
 use Rattle.mage_engine.specs.Ready.{IsAt, IsReady, Stands, wires_of, wires_of_op}
-use Rattle.mage_engine.specs.Steps.{IsMove, OverLink, AtLink, Happens, AtPort, kind_of, kind_of_op, place_after, wire_after, standing_after}
+use Rattle.mage_engine.specs.Steps.{IsMove, OverLink, AtLink, Happens, AtPort, kind_of, kind_of_op, place_after, wire_after, standing_after, calls_of}
 use Rattle.mage_engine.proofs.Advancing.{ready, running, meets, is_directive, wire_within, next_ready, wire_ready, stands_of}
 use Rattle.mage_engine.proofs.Using.{first_same, written_same, other_before}
-use Rattle.mage_engine.proofs.Moving.{EventAt, event_so}
+use Rattle.mage_engine.proofs.Moving.{EventAt, event_so, passed_so}
 
 past_so : {S : Type 0} (b : Bool) (engine : Engine S) →
     record engine { place = cond b (suc engine.place) engine.place; wire = cond b 0 (suc engine.wire) } ≡
@@ -76,8 +77,9 @@ module _ {W : Type 0} (rules : Rules W) (wb : ℕ) (finished : Bool) (old : Seen
 
     moved_wire : (new : Seen rules.State) (bank : ℕ → List ℕ) (moved : Kind) → new ≡ After is_last bank → moved ≡ kind_of (Some (entry.Do job)) →
         (before after : LinkTold) → AtLink (Some (entry.Do job)) old.part.worker before after → (IsTrue old.driver.told → EventAt rules old (entry.Do job) at (After is_last bank) before after) →
+        NoneIsDue rules (calls_of rules (doing_of rules old.part.limits.page (entry.Do job) (engine_with old old.bank))) →
         IsMove rules old new before after moved
-    moved_wire new bank moved is of before after linked event =
+    moved_wire new bank moved is of before after linked event passed =
         subst (λ (n : Seen rules.State). IsMove rules old n before after moved) (sym is) (record {
           of_kind = of ∙ ap kind_of (sym at.here);
           port = subst (λ (o : Option Directive). AtPort o old.bank bank old.port old.port) (sym at.here) refl;
@@ -91,6 +93,7 @@ module _ {W : Type 0} (rules : Rules W) (wb : ℕ) (finished : Bool) (old : Seen
           }) (sym many)
               ∙ ap (λ (o : Option Directive). record old { place = place_after o old.wire old.place; wire = wire_after o old.wire; bank = bank }) (sym at.here);
           event = λ told. event_so rules old (entry.Do job) at (After is_last bank) before after (event told);
+          passed = λ told. passed_so rules old (entry.Do job) at passed;
         })
 
   -- ---- a wire is sent
@@ -117,6 +120,7 @@ module _ {W : Type 0} (rules : Rules W) (wb : ℕ) (finished : Bool) (old : Seen
     pushed new is before after sent =
         moved_wire many_sent new old.bank kind.Push is (ap (λ (o : Op). kind_of_op o) (sym sends)) before after
         (subst (λ (o : Op). OverLink o job.imm old.part.worker before after) (sym sends) (_, sent)) event
+        (subst (λ (o : Op). NoneIsDue rules (calls_of rules (Acts (act_of_op rules o job (engine_with old old.bank))))) (sym sends) tt)
       where
         has : nat_lt 0 (arity_of job.op) ≡ true
         has = ap (λ (o : Op). nat_lt 0 (arity_of o)) sends
@@ -166,6 +170,7 @@ module _ {W : Type 0} (rules : Rules W) (wb : ℕ) (finished : Bool) (old : Seen
     popped new bytes is before after came =
         moved_wire many_received new (with_wire old.bank bytes) kind.Pop is (ap (λ (o : Op). kind_of_op o) (sym receives)) before after
         (subst (λ (o : Op). OverLink o job.imm old.part.worker before after) (sym receives) (bytes, came)) event
+        (subst (λ (o : Op). NoneIsDue rules (calls_of rules (Acts (act_of_op rules o job (engine_with old old.bank))))) (sym receives) tt)
       where
         event : IsTrue old.driver.told → EventAt rules old (entry.Do job) at (After many_received (is_last many_received) (with_wire old.bank bytes)) before after
         event told bank same = (

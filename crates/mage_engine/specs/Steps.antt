@@ -14,9 +14,10 @@ use Rattle.mage_network.specs.Reading.{Flying, hears_in}
 use Rattle.mage_driver.specs.declared.standing.Standing.{Standing}
 use Rattle.mage_driver.specs.declared.standing.Standing.TheVariants as standing
 use Rattle.mage_driver.specs.Rules.{Rules}
-use Rattle.mage_driver.specs.Calls.{Call, Fell}
+use Rattle.mage_driver.specs.Calls.{Call, NoneIsDue, Fell}
 use Rattle.mage_link.specs.Links.{LinkTold, after_send, after_receive, after_wait, IsFull, IsDrained}
-use Rattle.mage_port.specs.Port.{PortTold, Transfers, AskedRead, AskedWrite, slot_state, with_state, with_transfer, Brings, Saves, Fails, Spoils, IsUnderWay}
+use Rattle.mage_port.specs.Port.{PortTold, Transfers, AskedRead, AskedWrite, slot_state, with_state, with_transfer, Brings, Saves, Fails, Spoils, KeepsOn, IsUnderWay}
+use Rattle.mage_port.specs.declared.ready.PortWait.TheVariants as waits
 use Rattle.mage_steps.specs.Engines.{Engine, Next, doing, opened}
 use Rattle.mage_engine.specs.declared.turn.Kind.{Kind}
 use Rattle.mage_engine.specs.declared.turn.Kind.TheVariants as kind
@@ -143,7 +144,12 @@ module _ {W : Type 0} (rules : Rules W) where
   IsEvent old new before after = (bank : ℕ → List ℕ) → HoldSame old bank →
       (filled : ℕ → List ℕ) × HoldSame new filled × StepsFrom old new before after bank filled
 
-  -- the machine moved
+  -- the calls that the driver gets next
+  abbrev pub calls_of : Next rules → List (Call rules.State W)
+  calls_of (Acts (Moves said after)) = said
+  calls_of _ = []
+
+  -- The machine moved; where its driver is told, no fault was due in the calls that it got.
   pub record IsMove (old new : Seen rules.State) (before after : LinkTold) (moved : Kind) : Type 0 where
     pub of_kind : moved ≡ kind_of (directive_at old)
     pub port : AtPort (directive_at old) old.bank new.bank old.port new.port
@@ -160,6 +166,7 @@ module _ {W : Type 0} (rules : Rules W) where
       bank = new.bank;
     }
     pub event : IsTrue old.driver.told → IsEvent old new before after
+    pub passed : IsTrue old.driver.told → NoneIsDue rules (calls_of (next_with old old.bank))
 
   -- The machine waits: only a count of waits changed, and rose. The link to which it sends is full, or that from which it
   -- receives is empty.
@@ -174,18 +181,15 @@ module _ {W : Type 0} (rules : Rules W) where
       (source_at (directive_at old) ≡ Some from) × (new ≡ old) × (after ≡ after_wait before)
       × IsDrained before from old.part.worker
 
-  -- the calls that the driver gets next
-  abbrev pub calls_of : Next rules → List (Call rules.State W)
-  calls_of (Acts (Moves said after)) = said
-  calls_of _ = []
-
   -- Why a machine stopped: the slot of the finish at which it stands says it, or its driver fell at one of the calls that
-  -- come next. Nothing else changed, but for the bytes of frames after a failed transfer.
+  -- come next. Nothing else changed, but for the bytes of frames after a failed transfer. A transfer of a steady port failed
+  -- only on a page past the port's, at a count that stands at its greatest value, or in a slot that had failed before.
   abbrev pub IsCause : (old new : Seen rules.State) → MachineFault → Type 0
   IsCause old new stops.Store =
       (slot : ℕ) × (finished_by (directive_at old) ≡ Some slot)
       × Fails old.port new.port slot (slot_state old.port slot)
       × (new ≡ record old { port = new.port; bank = new.bank; fault = Some stops.Store })
+      × (IsTrue old.port.steady → KeepsOn old.port (slot_state old.port slot) (Err waits.Failed))
   IsCause old new (stops.Damaged damage) =
       (slot : ℕ) × (finished_by (directive_at old) ≡ Some slot)
       × Spoils old.port new.port slot damage (slot_state old.port slot)

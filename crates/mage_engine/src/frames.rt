@@ -1,6 +1,6 @@
 // Pages between a port and frames.
-ghost use Rattle.std.specs.Prelude.{◌≡◌, ◌<◌, length};
-ghost use Rattle.mage_port.specs.Port.{AskedWrite, with_state, CanWrite, IsAskedRead, Finishes};
+ghost use Rattle.std.specs.Prelude.{◌≡◌, ◌<◌, length, IsTrue};
+ghost use Rattle.mage_port.specs.Port.{AskedWrite, with_state, CanWrite, IsAskedRead, Finishes, KeepsOn, slot_state};
 ghost use Rattle.mage_network.specs.Network.{put};
 ghost use Rattle.mage_bank.specs.Bank.{contents, bank_of, lengths_of};
 
@@ -18,6 +18,8 @@ pub(crate) fn take<P: SwapPort>(
     requires whole { length (bank_of (contents frames.old) frame) ≡ (P.tells port.old).page_bytes }
     ensures answer { Finishes (P.tells port.old) (P.tells port.new) slot
         (bank_of (contents frames.old) frame) (bank_of (contents frames.new) frame) result }
+    ensures steady { IsTrue (P.tells port.old).steady
+        → KeepsOn (P.tells port.old) (slot_state (P.tells port.old) slot) result }
     ensures bank { bank_of (contents frames.new) ≡ put (bank_of (contents frames.old)) frame
         (bank_of (contents frames.new) frame) }
     ensures lengths { lengths_of (contents frames.new) ≡ lengths_of (contents frames.old) }

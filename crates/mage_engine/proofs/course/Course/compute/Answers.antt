@@ -3,6 +3,7 @@ use Rattle.std.specs.Prelude.{Vec}
 use Rattle.std.specs.Global.{Global}
 use Rattle.mage_instr.specs.declared.directive.Directive.TheVariants as entry
 use Rattle.mage_bank.specs.Bank.{contents, bank_of, lengths_of}
+use Rattle.mage_driver.specs.Calls.{NoneIsDue}
 use Rattle.mage_bank.specs.Jobs.{JobLies, circuit_on}
 use Rattle.mage_steps.specs.Engines.{with_result}
 use Rattle.mage_engine.proofs.Views.{seen_of, changed}
@@ -76,4 +77,5 @@ returns-in-Ok g c =
     (did rules wb inside.finished old c.args.job at c.requires.made stands driver (bank_of (contents c.compute.new.frames)) went.rest _ is
     (λ told. went.state told ∙ ap (λ (l : List (Vec ℕ Global)). (circuit_on rules c.args.job (bank_of (contents l)) (g.D.Driver.tells inside.driver).state).state) value)
     (λ told. c.in-Ok.ensures.told told ∙ ap (λ (l : List (Vec ℕ Global)). with_result rules c.args.job (bank_of (contents l)) (circuit_on rules c.args.job (bank_of (contents l)) (g.D.Driver.tells inside.driver).state).wires) value)
+    (λ told. subst (λ (l : List (Vec ℕ Global)). NoneIsDue rules (circuit_on rules c.args.job (bank_of (contents l)) (g.D.Driver.tells inside.driver).state).calls) value (went.passed told))
     link)
