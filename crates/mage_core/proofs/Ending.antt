@@ -35,7 +35,7 @@ sound_below above below (inl e) sound = ap has_failed (sym e) ∙ go above sound
     go (IsDamaged damage) s = refl
 sound_below above below (inr h) sound = ap has_failed h.2
 
-none_failed : (states : List SlotState) → ((slot : ℕ) → has_failed (get_or states slot Idle) ≡ false) → list_any has_failed states ≡ false
+pub none_failed : (states : List SlotState) → ((slot : ℕ) → has_failed (get_or states slot Idle) ≡ false) → list_any has_failed states ≡ false
 none_failed [] h = refl
 none_failed (x ∷ xs) h = ap (λ b. b || list_any has_failed xs) (h zero) ∙ none_failed xs (λ slot. h (suc slot))
 

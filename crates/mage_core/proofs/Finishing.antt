@@ -87,6 +87,14 @@ module _ {W D S : Type 0} (rules : Rules W) (driver_tells : D → Told rules.Sta
     stores_end = stores_so ∙ ap (λ (l : List D). shelves (take (length l) shelves_mid) ++ reverse (stores_of ms)) none
         ∙ sym (map_reverse (λ (m : RunMachine D S). store_of m ∷ []) ms)
 
+    -- what holds of what the machines hold holds of what comes back
+    pub back_end : (P : List (Told rules.State) → List (List StoreTold) → Type 0) →
+        P (map driver_tells (drivers_of (reverse ms))) (map (λ shelf. map store_tells shelf) (stores_of (reverse ms))) →
+        P (map driver_tells drivers) (map (λ shelf. map store_tells shelf) (shelves stores))
+    back_end P h =
+        subst (λ (d : List D). P (map driver_tells d) (map (λ shelf. map store_tells shelf) (shelves stores))) (sym drivers_end)
+        (subst (λ (s : List (List S)). P (map driver_tells (drivers_of (reverse ms))) (map (λ shelf. map store_tells shelf) s)) (sym stores_end) h)
+
     pub comes_end : (links : QueueState) (result : Option RunFault) → All (CameBy store_tells) ms → EndsAs rules starts (sights driver_tells store_tells (reverse ms)) links result →
         ComesTo starts (map driver_tells drivers) (map (λ shelf. map store_tells shelf) (shelves stores)) result
     comes_end links result came ends =

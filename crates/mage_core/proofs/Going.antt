@@ -20,6 +20,7 @@ use Rattle.mage_engine.specs.Steps.{IsMove, AtPort, AtLink, OverLink, place_afte
 use Rattle.mage_engine.proofs.Along.{still_along}
 use Rattle.mage_core.specs.Turns.{SameWires}
 use Rattle.mage_core.specs.Going.{Start, IsGoing, is_sound, read_in, reads_of, write_in, writes_of}
+use Rattle.mage_core.proofs.Storing.{contains_at, port_keeps}
 
 -- ---- counts
 
@@ -267,6 +268,7 @@ module _ {W : Type 0} (rules : Rules W) (start : Start rules.State) (worker : �
     reads = g.reads;
     writes = g.writes;
     slots = g.slots;
+    store = g.store;
     connects = connects start.part g.connects;
     along = λ is. let was = g.along is in record {
       bank = was.bank;
@@ -333,6 +335,8 @@ module _ {W : Type 0} (rules : Rules W) (start : Start rules.State) (worker : �
           omega (arith, more, was, then) in
           sum ∙ ap (λ n. start.store.writes + writes_of (take n start.part.directives)) (sym place_so));
       slots = goes_port.slots g.slots;
+      store = port_keeps start.part start.store (directive_at old) old.bank new.bank old.port new.port move.port
+          (contains_at start.part.directives old.place (directive_at old) next_so) g.store;
       connects = connects start.part g.connects;
       along = λ is. still_along rules (first_worker rules start.part.limits.page start.driver.state) old new (queue_told before) (queue_told after) kind move
           (subst IsTrue (sym g.told) is) (g.along is);

@@ -1,6 +1,7 @@
 mod Naming
 mod Porting
 mod Holding
+mod Storing
 mod Going
 mod Starting
 mod Turning
@@ -12,6 +13,8 @@ mod Joined
 mod Ending
 mod Whole
 mod Answered
+mod Sufficing
+mod Issuing
 mod Reaching
 mod Finishing
 mod Lending

@@ -63,7 +63,8 @@ store_bytes {S} wire_bytes tells part before store has is =
 module _ {W D S : Type 0} (rules : Rules W) (driver_tells : D → Told rules.State) (store_tells : S → StoreTold)
     (machine : RunMachine D S) (part : WorkerPart) (driver : D) (sealed : RunPort S) (store : S) (buffer bytes : ℕ)
     (opens : seen driver_tells (port_tells store_tells) machine ≡ opened rules part (driver_tells driver) (port_tells store_tells sealed))
-    (driver_is : machine.driver ≡ driver) (port_is : machine.port ≡ sealed) (over : sealed.port ≡ new_serial store buffer bytes) where
+    (driver_is : machine.driver ≡ driver) (port_is : machine.port ≡ sealed) (over : sealed.port ≡ new_serial store buffer bytes)
+    (long : bytes ≡ (store_tells store).page_bytes) where
   pub part_is : machine.part ≡ part
   part_is = ap (λ (m : Seen rules.State). m.part) opens
 
@@ -80,6 +81,8 @@ module _ {W D S : Type 0} (rules : Rules W) (driver_tells : D → Told rules.Sta
     unused = subst (λ (p : RunPort S). IsUnused (port_tells store_tells p)) (sym port_is) unused;
     running = subst (λ (d : D). (driver_tells d).standing ≡ standing.Running) (sym driver_is) running;
     first = ap (λ (p : RunPort S). p.port.first) port_is ∙ ap (λ (p : SerialState S). p.first) over ∙ sym store_is;
+    bytes = ap (λ (p : RunPort S). p.port.slots.page_bytes) port_is ∙ ap (λ (p : SerialState S). p.slots.page_bytes) over ∙ long
+        ∙ sym (ap (λ (p : RunPort S). (store_tells p.port.first).page_bytes) port_is ∙ ap (λ (p : SerialState S). (store_tells p.first).page_bytes) over);
     safe = subst IsSafe (sym part_is) safe;
     runs = subst Runs (sym part_is) runs;
   }

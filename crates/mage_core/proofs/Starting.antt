@@ -1,6 +1,6 @@
 -- Machines before the first step.
 use Rattle.std.proofs.Common.{◌≡◌, ◌<◌, ◌+◌, ℕ, zero, suc, List, [], ◌∷◌, length, map, take, Option, None, Some, slice_get, slice_index_or, refl, sym, ap, ◌∙◌, subst, arith}
-use Rattle.std.specs.Prelude.{IfSome}
+use Rattle.std.specs.Prelude.{IfSome, is_some}
 use Rattle.std.specs.List.{All}
 use Rattle.std.proofs.lemmas.List.{length-map}
 use Rattle.mage_base.specs.Store.{StoreTold}
@@ -21,6 +21,7 @@ use Rattle.mage_engine.specs.Steps.{GoesAlong, first_worker}
 use Rattle.mage_engine.specs.Ready.{Connects, target_of, source_of, sent_by, received_by, wires_of}
 use Rattle.mage_engine.proofs.Along.{along_first}
 use Rattle.mage_core.specs.Ports.{RunMachine, port_tells, store_of, first_of}
+use Rattle.mage_core.specs.Stores.{IsOfPart}
 use Rattle.mage_core.specs.Made.{IsNew}
 use Rattle.mage_core.specs.Turns.{sights}
 use Rattle.mage_core.specs.Going.{IsGoing, HasGone, AllGo, start_of, is_sound, reads_of, writes_of}
@@ -156,6 +157,13 @@ module _ {W D S : Type 0} (rules : Rules W) (driver_tells : D → Told rules.Sta
         let none : writes_of (take machine.place machine.part.directives) ≡ 0 = ap (λ (m : Seen rules.State). writes_of (take m.place machine.part.directives)) new.opens in
         omega (arith, same, none));
     slots = λ slot. ap is_sound (new.unused.idle slot);
+    store = record {
+      pages = ap (λ (s : S). is_some (store_tells s).pages) (sym new.first);
+      page_bytes = new.bytes;
+      steady = ap (λ (s : S). (store_tells s).steady) (sym new.first);
+      page_count = ap (λ (s : S). (store_tells s).page_count) (sym new.first);
+      slots = λ slot. subst (IsOfPart machine.part) (sym (new.unused.idle slot)) tt;
+    };
     connects = connects;
     along = λ told. subst (λ (m : Seen rules.State). GoesAlong rules (first_worker rules machine.part.limits.page (driver_tells machine.driver).state) m (queue_told queues)) (sym new.opens)
         (along_first rules machine.part (driver_tells machine.driver) (port_tells store_tells machine.port) (queue_told queues) new.running new.unused unused);

@@ -14,6 +14,7 @@ use Rattle.mage_engine.specs.Ready.{Connects, wires_of}
 use Rattle.mage_engine.specs.Steps.{GoesAlong, first_worker}
 use Rattle.mage_core.specs.declared.fault.RunFault.{RunFault}
 use Rattle.mage_core.specs.Ports.{RunMachine, first_of}
+use Rattle.mage_core.specs.Stores.{KeepsStore}
 use Rattle.mage_core.specs.Turns.{Falls}
 
 -- a worker as it was handed in: its part, and what its driver and its store told
@@ -63,6 +64,7 @@ pub record IsGoing {W : Type 0} (rules : Rules W) (start : Start rules.State) (w
   pub reads : machine.port.reads ≡ start.store.reads + reads_of (take machine.place start.part.directives)
   pub writes : machine.port.writes ≡ start.store.writes + writes_of (take machine.place start.part.directives)
   pub slots : (slot : ℕ) → is_sound (slot_state machine.port slot) ≡ true
+  pub store : KeepsStore start.part start.store machine.port
   pub connects : Connects (queue_told links) start.part
   pub along : IsTrue start.driver.told → GoesAlong rules (first_worker rules start.part.limits.page start.driver.state)
       machine (queue_told links)

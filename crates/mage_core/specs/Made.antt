@@ -26,6 +26,7 @@ pub record IsNew {W D S : Type 0} (rules : Rules W) (driver_tells : D → Told r
   pub unused : IsUnused (port_tells store_tells machine.port)
   pub running : (driver_tells machine.driver).standing ≡ standing.Running
   pub first : first_of machine ≡ store_of machine
+  pub bytes : (port_tells store_tells machine.port).page_bytes ≡ (store_tells (first_of machine)).page_bytes
   pub safe : IsSafe machine.part
   pub runs : Runs machine.part
 

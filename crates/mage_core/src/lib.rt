@@ -12,5 +12,5 @@ mod turns;
 
 pub use ended::Ended;
 pub use fault::RunFault;
-pub use laws::answered_joint_runs_of_verified_programs_end;
+pub use laws::{answered_joint_runs_of_verified_programs_end, parts_finish_what_they_issue};
 pub use serial::solo;

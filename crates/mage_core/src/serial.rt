@@ -9,8 +9,11 @@ ghost use Rattle.mage_core.specs.declared.fault.RunFault.TheVariants as fault;
 ghost use Rattle.mage_core.specs.Going.{EndsAs};
 ghost use Rattle.mage_core.specs.Made.{HasStoreOf, Hold, IsEmptied, shelves};
 ghost use Rattle.mage_core.specs.Turns.{sights};
-ghost use Rattle.mage_core.specs.Results.{starts_of, ComesTo};
+ghost use Rattle.mage_core.specs.Results.{starts_of, Back, ComesTo};
 ghost use Rattle.mage_core.specs.Answered.{AreStates, AreTold, RunsAnswered};
+ghost use Rattle.mage_core.specs.Steady.{Suffices, IsNotOfStore, IsNotOfDriver, TellsAlike};
+ghost use Rattle.mage_base.specs.declared.failure.Damage.{Damage};
+ghost use Rattle.mage_instr.specs.declared.fault.DriverFault.{DriverFault};
 ghost use Rattle.mage_instr.specs.declared.directive.MemProgram.{MemProgram};
 ghost use Rattle.mage_directives.specs.Directives.{IsMemProgram};
 ghost use Rattle.mage_verify.specs.Parts.{parts_of};
@@ -95,7 +98,8 @@ fn run_all<D: Driver, S: Store>(
 /// It always returns, and hands drivers and stores back in order. `Memory` comes before the first step, and then they are as
 /// they were. At each turn the lowest worker that can go on makes a step; the run ends once none can, which is where all have
 /// ended, or where one is stopped. A worker's fault is the first that a turn meets, which isn't always the first in the
-/// verifier's order: one that sends goes on while its link has room. Nothing is said of how long it takes.
+/// verifier's order: one that sends goes on while its link has room. Where each store suffices for its part no run stops for a
+/// store, and whatever a run comes to, a store has the pages that it had. Nothing is said of how long it takes.
 pub fn solo<D: Driver, S: Store>(
     alloc: Global,
     parts: Vec<Part>,
@@ -131,6 +135,30 @@ pub fn solo<D: Driver, S: Store>(
         (map (λ shelf. map S.tells shelf) (shelves stores.items)))
         (map D.tells result.drivers.items)
         (map (λ shelf. map S.tells shelf) (shelves result.stores.items)) }
+    ensures steady { ((w : ℕ) → IfSome (slice_get
+        (starts_of parts.items (map D.tells drivers.items)
+        (map (λ shelf. map S.tells shelf) (shelves stores.items))) w) Suffices)
+        → IsNotOfStore result.fault × ((w : ℕ) (back : Back
+        (starts_of parts.items (map D.tells drivers.items)
+        (map (λ shelf. map S.tells shelf) (shelves stores.items)))
+        (map D.tells result.drivers.items)
+        (map (λ shelf. map S.tells shelf) (shelves result.stores.items)) w)
+        → back.store.faults ≡ back.start.store.faults) }
+    ensures untold { (w : ℕ) (damage : Damage) → result.fault ≡ Some (fault.Damaged w damage)
+        → IfSome (slice_get (starts_of parts.items (map D.tells drivers.items)
+        (map (λ shelf. map S.tells shelf) (shelves stores.items))) w)
+        (λ start. start.store.pages ≡ None) }
+    ensures unfailing { ((from to after : D.rules.State) (f : DriverFault)
+        → D.rules.Stops from to f after → ⊥)
+        → AreTold (starts_of parts.items (map D.tells drivers.items)
+        (map (λ shelf. map S.tells shelf) (shelves stores.items)))
+        → IsNotOfDriver result.fault }
+    ensures pages { (w : ℕ) (back : Back
+        (starts_of parts.items (map D.tells drivers.items)
+        (map (λ shelf. map S.tells shelf) (shelves stores.items)))
+        (map D.tells result.drivers.items)
+        (map (λ shelf. map S.tells shelf) (shelves result.stores.items)) w)
+        → TellsAlike back.start.store back.store }
 {
     let mut drivers = drivers;
     let mut stores = stores;

@@ -1,12 +1,17 @@
-use Rattle.std.proofs.Common.{◌≡◌, List, length, map, replicate, None, sym, ap, ◌∙◌, subst, arith}
+use Rattle.std.proofs.Common.{◌≡◌, ℕ, List, length, map, replicate, reverse, None, refl, sym, ap, ◌∙◌, subst, arith}
 use Rattle.std.proofs.lemmas.List.{length-map}
 use Rattle.mage_verify.specs.Parts.{WorkerPart}
 use Rattle.mage_verify.specs.Faults.{fault_in}
 use Rattle.mage_core.specs.Made.{shelves}
 use Rattle.mage_core.specs.Going.{Start}
-use Rattle.mage_core.specs.Results.{starts_of}
-use Rattle.mage_core.proofs.Finishing.{comes_end, answered_end, ones_end, ones_given, starts_parts, told_lengths, by_memory}
-use Rattle.mage_core.proofs.Whole.{but_for_memory}
+use Rattle.mage_core.specs.Results.{starts_of, Back}
+use Rattle.mage_base.specs.Store.{StoreTold}
+use Rattle.mage_core.specs.Ports.{CameBy}
+use Rattle.mage_core.specs.Turns.{sights}
+use Rattle.mage_core.specs.Steady.{IsNotOfStore, IsNotOfDriver, TellsAlike}
+use Rattle.mage_core.proofs.Sufficing.{steady_end, untold_end, unfailing_end, faults_end, alike_end, back_same, alike_same}
+use Rattle.mage_core.proofs.Finishing.{back_end, comes_end, answered_end, ones_end, ones_given, starts_parts, told_lengths, by_memory}
+use Rattle.mage_core.proofs.Whole.{all_reverse, but_for_memory}
 use Rattle.mage_core.proofs.Lending.{some_parts, few_parts, end_count}
 use Rattle.mage_core.proofs.serial.solo.Goals as goal
 
@@ -75,3 +80,67 @@ returns-clause-answered g c plan states fine same are told is =
     c.close_all.new.drivers.items c.run_all-fault.new.stores.items c.close_all.new.stores.items c.close_all.ensures.drivers c.close_all.ensures.stores ran.0
     c.run_all-fault.new.link c.run_all-fault.result c.close_all.ensures.came ran.1 is count plan fine
     (subst (λ (ps : List WorkerPart). fault_in ps ≡ None) same c.requires.verified.none) (parts_are ∙ same) states are told
+
+pub returns-clause-steady : goal.returns-clause-steady
+returns-clause-steady g c suffice =
+    let told = map g.D.Driver.tells c.args.drivers.items in
+    let stores = map (λ shelf. map g.S.Store.tells shelf) (shelves c.args.stores.items) in
+    let starts = starts_of c.args.parts.items told stores in
+    let drivers = map g.D.Driver.tells c.close_all.new.drivers.items in
+    let left = map (λ shelf. map g.S.Store.tells shelf) (shelves c.close_all.new.stores.items) in
+    by_memory (IsNotOfStore c.run_all-fault.result × ((w : ℕ) (back : Back starts drivers left w) → back.store.faults ≡ back.start.store.faults)) c.run_all-fault.result
+    (λ e. let same = ap (map (λ shelf. map g.S.Store.tells shelf)) (c.close_all.ensures.stores ∙ (c.run_all-fault.ensures.memory e).stores_are) in (
+      subst IsNotOfStore (sym e) tt,
+      λ w back. ap (λ (s : StoreTold). s.faults) (back_same c.args.parts.items told drivers stores left same w back),
+    ))
+    (λ not. let ran = c.run_all-fault.ensures.ran not in
+    let sights_of = sights g.D.Driver.tells g.S.Store.tells (reverse c.run_all-fault.new.machines.items) in
+    let fine = steady_end g.D.Driver.rules starts suffice sights_of c.run_all-fault.new.link c.run_all-fault.result ran.1 in (
+      fine,
+      back_end g.D.Driver.rules g.D.Driver.tells g.S.Store.tells starts c.run_all-fault.new.machines.items c.run_all-fault.new.drivers.items
+          c.close_all.new.drivers.items c.run_all-fault.new.stores.items c.close_all.new.stores.items c.close_all.ensures.drivers c.close_all.ensures.stores ran.0
+          (λ ds ss. (w : ℕ) (back : Back starts ds ss w) → back.store.faults ≡ back.start.store.faults)
+          (faults_end g.D.Driver.rules g.D.Driver.tells g.S.Store.tells starts (reverse c.run_all-fault.new.machines.items)
+          (all_reverse (CameBy g.S.Store.tells) c.run_all-fault.new.machines.items c.close_all.ensures.came) c.run_all-fault.new.link c.run_all-fault.result ran.1 fine),
+    ))
+
+pub returns-clause-untold : goal.returns-clause-untold
+returns-clause-untold g c w damage is =
+    let starts = starts_of c.args.parts.items (map g.D.Driver.tells c.args.drivers.items) (map (λ shelf. map g.S.Store.tells shelf) (shelves c.args.stores.items)) in
+    let ran = c.run_all-fault.ensures.ran (λ e. absurd (let never = sym is ∙ e in cc)) in
+    untold_end g.D.Driver.rules starts (sights g.D.Driver.tells g.S.Store.tells (reverse c.run_all-fault.new.machines.items)) c.run_all-fault.new.link
+    c.run_all-fault.result ran.1 w damage is
+
+pub returns-clause-unfailing : goal.returns-clause-unfailing
+returns-clause-unfailing g c never told =
+    let starts = starts_of c.args.parts.items (map g.D.Driver.tells c.args.drivers.items) (map (λ shelf. map g.S.Store.tells shelf) (shelves c.args.stores.items)) in
+    by_memory (IsNotOfDriver c.run_all-fault.result) c.run_all-fault.result (λ e. subst IsNotOfDriver (sym e) tt)
+    (λ not. unfailing_end g.D.Driver.rules starts never told (sights g.D.Driver.tells g.S.Store.tells (reverse c.run_all-fault.new.machines.items))
+    c.run_all-fault.new.link c.run_all-fault.result (c.run_all-fault.ensures.ran not).1)
+
+pub returns-clause-pages : goal.returns-clause-pages
+returns-clause-pages g c =
+    let told = map g.D.Driver.tells c.args.drivers.items in
+    let stores = map (λ shelf. map g.S.Store.tells shelf) (shelves c.args.stores.items) in
+    let starts = starts_of c.args.parts.items told stores in
+    let drivers = map g.D.Driver.tells c.close_all.new.drivers.items in
+    let left = map (λ shelf. map g.S.Store.tells shelf) (shelves c.close_all.new.stores.items) in
+    by_memory ((w : ℕ) (back : Back starts drivers left w) → TellsAlike back.start.store back.store) c.run_all-fault.result
+    (λ e. let same = ap (map (λ shelf. map g.S.Store.tells shelf)) (c.close_all.ensures.stores ∙ (c.run_all-fault.ensures.memory e).stores_are) in
+    λ w back. alike_same back.start.store back.store (back_same c.args.parts.items told drivers stores left same w back))
+    (λ not. let ran = c.run_all-fault.ensures.ran not in
+    back_end g.D.Driver.rules g.D.Driver.tells g.S.Store.tells starts c.run_all-fault.new.machines.items c.run_all-fault.new.drivers.items
+    c.close_all.new.drivers.items c.run_all-fault.new.stores.items c.close_all.new.stores.items c.close_all.ensures.drivers c.close_all.ensures.stores ran.0
+    (λ ds ss. (w : ℕ) (back : Back starts ds ss w) → TellsAlike back.start.store back.store)
+    (alike_end g.D.Driver.rules g.D.Driver.tells g.S.Store.tells starts (reverse c.run_all-fault.new.machines.items)
+    (all_reverse (CameBy g.S.Store.tells) c.run_all-fault.new.machines.items c.close_all.ensures.came) c.run_all-fault.new.link c.run_all-fault.result ran.1))
+
+pub returns-in_default-clause-steady : goal.returns-in_default-clause-steady
+returns-in_default-clause-steady g c suffice = (
+  tt,
+  λ w back. ap (λ (s : StoreTold). s.faults) (back_same c.args.parts.items (map g.D.Driver.tells c.args.drivers.items) _ _ _ refl w back),
+)
+
+pub returns-in_default-clause-pages : goal.returns-in_default-clause-pages
+returns-in_default-clause-pages g c w back =
+    alike_same back.start.store back.store (back_same c.args.parts.items (map g.D.Driver.tells c.args.drivers.items) _ _ _ refl w back)
