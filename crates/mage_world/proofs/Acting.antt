@@ -13,7 +13,12 @@ use Rattle.mage_steps.specs.Engines.{Engine, advanced, doing_at}
 use Rattle.mage_verify.specs.Parts.{WorkerPart}
 use Rattle.mage_world.specs.Slots.{is_idle, has_read, has_written}
 use Rattle.mage_world.specs.Seats.{Seat}
-use Rattle.mage_world.specs.Turns.{Wires, Leaves, act_of, Did, Stays}
+use Rattle.mage_world.specs.Turns.{Wires, Leaves, framed_as, act_of, Did, Stays}
+
+-- a state that is the core's is so but for the driver's state and the frames
+pub framed_same : {S : Type 0} (core next : net.Paged (Engine S) (List ℕ)) → core ≡ next → core ≡ framed_as core next
+framed_same {S} core next same =
+    ap (λ (x : net.Paged (Engine S) (List ℕ)). record x { engine = record x.engine { driver = core.engine.driver; bank = core.engine.bank } }) same
 
 module _ {W : Type 0} (rules : Rules W) (part : WorkerPart) (capacity : ℕ) (was : Seat rules.State) where
   -- what the worker's act is at a directive
@@ -26,18 +31,25 @@ module _ {W : Type 0} (rules : Rules W) (part : WorkerPart) (capacity : ℕ) (wa
 
   module _ (is : Seat rules.State) (fault : is.fault ≡ was.fault) (told : is.driver.told ≡ was.driver.told)
       (faults : is.driver.faults ≡ was.driver.faults) where
-    -- a move
-    pub moves : (said : List (Call rules.State W)) (next : net.Paged (Engine rules.State) (List ℕ)) →
-        act_of rules part was ≡ Some (Moves said next) → (IsTrue was.driver.told → is.core ≡ next) → (wires : Wires) →
-        Did rules part capacity was is wires wires
-    moves said next act same wires = record {
+    -- a move, whose circuit a driver makes that may be told
+    pub moves_when : (said : List (Call rules.State W)) (next : net.Paged (Engine rules.State) (List ℕ)) →
+        act_of rules part was ≡ Some (Moves said next) → is.core ≡ framed_as is.core next → (IsTrue was.driver.told → is.core ≡ next) →
+        (wires : Wires) → Did rules part capacity was is wires wires
+    moves_when said next act rest same wires = record {
       can = ap (λ a. may_go_on capacity part.worker a wires) act;
       sound = fault;
       told = told;
       faults = faults;
-      event = λ t. subst (λ (a : Option (Act (net.Paged (Engine rules.State) (List ℕ)) (Call rules.State W) (List ℕ))). Leaves part.worker a is.core wires wires)
+      rest = subst (λ (a : Option (Act (net.Paged (Engine rules.State) (List ℕ)) (Call rules.State W) (List ℕ))). Leaves part.worker a (λ next. is.core ≡ framed_as is.core next) wires wires)
+          (sym act) (rest, refl);
+      event = λ t. subst (λ (a : Option (Act (net.Paged (Engine rules.State) (List ℕ)) (Call rules.State W) (List ℕ))). Leaves part.worker a (λ next. is.core ≡ next) wires wires)
           (sym act) (same t, refl);
     }
+
+    -- a move
+    pub moves : (said : List (Call rules.State W)) (next : net.Paged (Engine rules.State) (List ℕ)) →
+        act_of rules part was ≡ Some (Moves said next) → is.core ≡ next → (wires : Wires) → Did rules part capacity was is wires wires
+    moves said next act same wires = moves_when said next act (framed_same is.core next same) (λ t. same) wires
 
   -- ---- slots that aren't ready
 

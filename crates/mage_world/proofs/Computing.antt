@@ -19,8 +19,8 @@ use Rattle.mage_steps.specs.Frames.{cleared, spot_of_wire, wire_at, with_wires, 
 use Rattle.mage_steps.specs.Engines.{Engine, Acting, advanced, past_wire, no_spot, with_result, made_of, computes, act_of_op, finishes}
 use Rattle.mage_verify.specs.Parts.{WorkerPart}
 use Rattle.mage_world.specs.Seats.{Seat}
-use Rattle.mage_world.specs.Turns.{Wires, Leaves, said_by, act_of, Did, Fails, Stays}
-use Rattle.mage_world.proofs.Acting.{act_here}
+use Rattle.mage_world.specs.Turns.{Wires, Leaves, framed_as, said_by, act_of, Did, Fails, Stays}
+use Rattle.mage_world.proofs.Acting.{act_here, framed_same}
 
 computes_when : {W : Type 0} (rules : Rules W) (o : Op) → is_made o ≡ true → (job : Job) (engine : Engine rules.State) →
     act_of_op rules o job engine ≡ computes rules job engine
@@ -105,6 +105,14 @@ module _ {W : Type 0} (rules : Rules W) (part : WorkerPart) (capacity : ℕ) (wa
     made_moves = act_here rules part capacity was (Some (entry.Do job)) here
         ∙ ap (λ (a : Acting rules). net.act_in net.asked (net.Acts a) was.core) (computes_when rules job.op made job was.core.engine)
 
+    -- whatever the driver made
+    pub made_rest : (driver : rules.State) (bank : ℕ → List ℕ) →
+        with_engine (record was.core.engine { place = was.core.engine.place + 1; wire = 0; driver = driver; bank = bank }) ≡
+        with_engine (record (advanced was.core.engine) { driver = driver; bank = bank })
+    made_rest driver bank =
+        let next : was.core.engine.place + 1 ≡ suc was.core.engine.place = omega arith in
+        ap (λ (p : ℕ). with_engine (record was.core.engine { place = p; wire = 0; driver = driver; bank = bank })) next
+
     pub made_is : (driver : rules.State) (bank : ℕ → List ℕ) → driver ≡ circuit.state → bank ≡ with_result rules job was.core.engine.bank circuit.wires →
         with_engine (record was.core.engine { place = was.core.engine.place + 1; wire = 0; driver = driver; bank = bank }) ≡
         with_engine (record (advanced was.core.engine) {
@@ -152,7 +160,9 @@ module _ {W : Type 0} (rules : Rules W) (part : WorkerPart) (capacity : ℕ) (wa
         sound = fault;
         told = ap (λ (d : Told rules.State). d.told) driver;
         faults = ap (λ (d : Told rules.State). d.faults) driver;
-        event = λ t. subst (λ (a : Acts). Leaves part.worker a is.core before after) (sym (send_is sends)) (same, links);
+        rest = subst (λ (a : Acts). Leaves part.worker a (λ next. is.core ≡ framed_as is.core next) before after) (sym (send_is sends))
+            (framed_same is.core _ same, links);
+        event = λ t. subst (λ (a : Acts). Leaves part.worker a (λ next. is.core ≡ next) before after) (sym (send_is sends)) (same, links);
       }
 
       pub taken : job.op ≡ op.Recv → (bytes : List ℕ) (rest : List (List ℕ)) → before job.imm part.worker ≡ bytes ∷ rest →
@@ -164,7 +174,9 @@ module _ {W : Type 0} (rules : Rules W) (part : WorkerPart) (capacity : ℕ) (wa
         sound = fault;
         told = ap (λ (d : Told rules.State). d.told) driver;
         faults = ap (λ (d : Told rules.State). d.faults) driver;
-        event = λ t. subst (λ (a : Acts). Leaves part.worker a is.core before after) (sym (take_is takes)) (bytes, rest, first, same, links);
+        rest = subst (λ (a : Acts). Leaves part.worker a (λ next. is.core ≡ framed_as is.core next) before after) (sym (take_is takes))
+            (bytes, rest, first, framed_same is.core _ same, links);
+        event = λ t. subst (λ (a : Acts). Leaves part.worker a (λ next. is.core ≡ next) before after) (sym (take_is takes)) (bytes, rest, first, same, links);
       }
 
     pub send_waits : job.op ≡ op.Send → (wires : Wires) → nat_lt (length (wires part.worker job.imm)) capacity ≡ false → Stays rules part capacity was was wires wires

@@ -80,7 +80,7 @@ module _ {W : Type 0} (rules : Rules W) (plan : MemProgram) (drivers : ℕ → r
         go m false e = shows.each m ∙ ap (λ (o : Option (Seat rules.State)). core_of_seat rules plan drivers o m)
             (sym (get_set_other old.seats n m is (eqb-false n m e)))
 
-    turned : (act : CoreAct) → may_go_on old.capacity n act old.wires ≡ true → Leaves n act is.core old.wires new.wires →
+    turned : (act : CoreAct) → may_go_on old.capacity n act old.wires ≡ true → Leaves n act (λ next. is.core ≡ next) old.wires new.wires →
         Shows rules plan drivers new (may_act old.capacity n act network)
     turned None can left = absurd left
     turned (Some Stops) can left = absurd left
@@ -101,8 +101,8 @@ module _ {W : Type 0} (rules : Rules W) (plan : MemProgram) (drivers : ℕ → r
         takes_so link = takes n source next link network
 
     -- what a turn leaves, for the worker's own number
-    own_number : (act : CoreAct) → Leaves part.worker act is.core old.wires new.wires → Leaves n act is.core old.wires new.wires
-    own_number act left = subst (λ (k : ℕ). Leaves k act is.core old.wires new.wires) number left
+    own_number : (act : CoreAct) → Leaves part.worker act (λ next. is.core ≡ next) old.wires new.wires → Leaves n act (λ next. is.core ≡ next) old.wires new.wires
+    own_number act left = subst (λ (k : ℕ). Leaves k act (λ next. is.core ≡ next) old.wires new.wires) number left
 
     pub done : (one : What) → IsTrue was.driver.told → WasDone rules one old.capacity part was is old.wires new.wires →
         Shows rules plan drivers new (event (net.over_slots (engine_of rules plan)) old.capacity (core_what n one) network)

@@ -21,8 +21,8 @@ use Rattle.mage_world.specs.declared.worker.Worker.{Worker}
 use Rattle.mage_world.specs.Slots.{in_slots, AreWithin, Becomes, Begins, EndsRead, EndsWrite}
 use Rattle.mage_world.specs.Seats.{Seat, state_of, seat_of, page_bytes, Stands, IsAt}
 use Rattle.mage_world.specs.Turns.{Wires, Did, Fails, Stays}
-use Rattle.mage_world.proofs.Acting.{waits, moves, ask_waits, ask_moves, asked_is, read_waits, read_moves, read_is, write_waits, write_moves, write_is}
-use Rattle.mage_world.proofs.Computing.{stopped, fresh_moves, fresh_is, made_moves, made_is, end_moves}
+use Rattle.mage_world.proofs.Acting.{waits, moves, moves_when, ask_waits, ask_moves, asked_is, read_waits, read_moves, read_is, write_waits, write_moves, write_is}
+use Rattle.mage_world.proofs.Computing.{stopped, fresh_moves, fresh_is, made_moves, made_rest, made_is, end_moves}
 use Rattle.mage_world.proofs.Standing.{running, behind, frame_whole}
 
 module _ {W : Type 0} (rules : Rules W) (part : WorkerPart) (driver : Told rules.State) (worker : Worker)
@@ -59,7 +59,7 @@ module _ {W : Type 0} (rules : Rules W) (part : WorkerPart) (driver : Told rules
         moves rules part capacity old (Sits driver (record worker { place = worker.place + 1; wire = 0; slots = slots })) refl refl refl []
         (net.asked slot transfer (advanced old.core.engine) old.core)
         (ask_moves rules part capacity old slot transfer x at.here asks begins.0)
-        (λ told. asked_is rules part capacity old slot transfer x at.here asks (in_slots slots.items) begins.1.slots) wires
+        (asked_is rules part capacity old slot transfer x at.here asks (in_slots slots.items) begins.1.slots) wires
 
     pub ask_stays : Begins worker.slots.items slots.items slot transfer false → (capacity : ℕ) (wires : Wires) →
         Stays rules part capacity old (Sits driver (record worker { slots = slots })) wires wires
@@ -82,7 +82,7 @@ module _ {W : Type 0} (rules : Rules W) (part : WorkerPart) (driver : Told rules
         moves rules part capacity old (Sits driver (record worker { place = worker.place + 1; wire = 0; frames = frames; slots = slots })) refl refl refl []
         (net.finished slot (record (advanced old.core.engine) { bank = put old.core.engine.bank frame ends.1 }) old.core)
         (read_moves rules part capacity old slot frame at.here ends.0 ends.1 ends.2)
-        (λ told. read_is rules part capacity old slot frame at.here ends.1 (in_slots slots.items) (bank_of (contents frames.items)) ends.3.slots ends.4) wires
+        (read_is rules part capacity old slot frame at.here ends.1 (in_slots slots.items) (bank_of (contents frames.items)) ends.3.slots ends.4) wires
 
     pub read_stays : EndsRead worker.slots.items slots.items slot (contents worker.frames.items) (contents frames.items) frame false → (capacity : ℕ) (wires : Wires) →
         Stays rules part capacity old (Sits driver (record worker { frames = frames; slots = slots })) wires wires
@@ -105,7 +105,7 @@ module _ {W : Type 0} (rules : Rules W) (part : WorkerPart) (driver : Told rules
         moves rules part capacity old (Sits driver (record worker { place = worker.place + 1; wire = 0; slots = slots })) refl refl refl []
         (net.finished slot (advanced old.core.engine) old.core)
         (write_moves rules part capacity old slot at.here ends.0 ends.1 ends.2 ends.3)
-        (λ told. write_is rules part capacity old slot at.here (in_slots slots.items) ends.4.slots) wires
+        (write_is rules part capacity old slot at.here (in_slots slots.items) ends.4.slots) wires
 
     pub write_stays : EndsWrite worker.slots.items slots.items slot false → (capacity : ℕ) (wires : Wires) →
         Stays rules part capacity old (Sits driver (record worker { slots = slots })) wires wires
@@ -128,7 +128,7 @@ module _ {W : Type 0} (rules : Rules W) (part : WorkerPart) (driver : Told rules
     fresh_turns inside capacity wires =
         moves rules part capacity old (Sits driver (record worker { place = worker.place + 1; wire = 0; frames = frames })) refl refl refl [] _
         (fresh_moves rules part capacity old frame page at.here)
-        (λ told. fresh_is rules part capacity old frame page at.here (bank_of (contents frames.items))
+        (fresh_is rules part capacity old frame page at.here (bank_of (contents frames.items))
         (filled ∙ ap (λ (n : ℕ). put (bank_of (contents worker.frames.items)) frame (replicate n 0)) (frame_whole rules part driver worker stands frame inside))) wires
 
   -- ---- an instruction that the driver makes
@@ -148,10 +148,11 @@ module _ {W : Type 0} (rules : Rules W) (part : WorkerPart) (driver : Told rules
         (capacity : ℕ) (wires : Wires) →
         Did rules part capacity old (Sits driver' (record worker { place = worker.place + 1; wire = 0; frames = frames })) wires wires
     made_turns rest reached frames stored capacity wires =
-        moves rules part capacity old (Sits driver' (record worker { place = worker.place + 1; wire = 0; frames = frames })) refl
+        moves_when rules part capacity old (Sits driver' (record worker { place = worker.place + 1; wire = 0; frames = frames })) refl
         (ap (λ (d : Told rules.State). d.told) rest) (ap (λ (d : Told rules.State). d.faults) rest)
         (circuit_on rules job (bank_of (contents worker.frames.items)) driver.state).calls _
         (made_moves rules part capacity old job made at.here)
+        (made_rest rules part capacity old job made at.here driver'.state (bank_of (contents frames.items)))
         (λ told. made_is rules part capacity old job made at.here driver'.state (bank_of (contents frames.items)) (reached told) (stored told)) wires
 
     pub made_fails : (fault : DriverFault) → Fell rules (circuit_on rules job (bank_of (contents worker.frames.items)) driver.state).calls driver fault driver' →
@@ -169,9 +170,9 @@ module _ {W : Type 0} (rules : Rules W) (part : WorkerPart) (driver : Told rules
     pub end_turns : worker.finished ≡ false → Answered rules Finish driver driver' → (capacity : ℕ) (wires : Wires) →
         Did rules part capacity old (Sits driver' (record worker { finished = true })) wires wires
     end_turns unfinished answered capacity wires =
-        moves rules part capacity old (Sits driver' (record worker { finished = true })) refl
+        moves_when rules part capacity old (Sits driver' (record worker { finished = true })) refl
         (ap (λ (d : Told rules.State). d.told) answered.rest) (ap (λ (d : Told rules.State). d.faults) answered.rest) (call_of rules driver.state Finish ∷ []) _
-        (end_moves rules part capacity old past unfinished)
+        (end_moves rules part capacity old past unfinished) refl
         (λ told. ap (λ (s : rules.State). record old.core { engine = record old.core.engine { driver = s; is_finished = true } }) (answered.state told)) wires
 
     pub end_fails : worker.finished ≡ false → (fault : DriverFault) → Fell rules (call_of rules driver.state Finish ∷ []) driver fault driver' → (capacity : ℕ) (wires : Wires) →

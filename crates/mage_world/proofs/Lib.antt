@@ -11,3 +11,8 @@ pub mod Serving
 pub mod Passing
 pub mod KindLemmas
 pub mod RoomLemmas
+pub mod Readying
+pub mod Reaching
+pub mod Arriving
+pub mod AtRest
+pub mod Finding

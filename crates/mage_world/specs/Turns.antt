@@ -62,16 +62,21 @@ abbrev pub said_by : {S L W : Type 0} → Option (Act S L W) → List L
 said_by (Some (Moves said after)) = said
 said_by _ = []
 
--- the worker's state and the links after its act
-abbrev pub Leaves : {S L : Type 0} → (worker : ℕ) → Option (Act S L (List ℕ)) → (new : S) →
+-- the links after an act, and what then holds of the worker's state that the core has
+abbrev pub Leaves : {S L : Type 0} → (worker : ℕ) → Option (Act S L (List ℕ)) → (Holds : S → Type 0) →
     (before after : Wires) → Type 0
-Leaves worker (Some (Moves said next)) new before after = (new ≡ next) × (after ≡ before)
-Leaves worker (Some (Sends target wire next)) new before after =
-    (new ≡ next) × (after ≡ put_link before worker target (appended (before worker target) wire))
-Leaves worker (Some (Takes source next)) new before after =
+Leaves worker (Some (Moves said next)) Holds before after = Holds next × (after ≡ before)
+Leaves worker (Some (Sends target wire next)) Holds before after =
+    Holds next × (after ≡ put_link before worker target (appended (before worker target) wire))
+Leaves worker (Some (Takes source next)) Holds before after =
     (wire : List ℕ) × (rest : List (List ℕ)) × (before source worker ≡ wire ∷ rest)
-    × (new ≡ next wire) × (after ≡ put_link before source worker rest)
-Leaves worker _ new before after = ⊥
+    × Holds (next wire) × (after ≡ put_link before source worker rest)
+Leaves worker _ Holds before after = ⊥
+
+-- a worker's state with the driver's state and the frames of another
+abbrev pub framed_as : {S : Type 0} → (other state : Paged (Engine S) (List ℕ)) → Paged (Engine S) (List ℕ)
+framed_as other state =
+    record state { engine = record state.engine { driver = other.engine.driver; bank = other.engine.bank } }
 
 module _ {W : Type 0} (rules : Rules W) (part : WorkerPart) where
   -- what the worker's engine does next
@@ -83,13 +88,15 @@ module _ {W : Type 0} (rules : Rules W) (part : WorkerPart) where
       Option (Act (Paged (Engine rules.State) (List ℕ)) (Call rules.State W) (List ℕ))
   act_of seat = act_in asked (next_of seat) seat.core
 
-  -- A turn was done. Where the driver is told, the worker's state and the links are what the core has.
+  -- A turn was done. The worker's state and the links are what the core has, but for the driver's state and the frames;
+  -- and where the driver is told, these are too.
   pub record Did (capacity : ℕ) (old new : Seat rules.State) (before after : Wires) : Type 0 where
     pub can : may_go_on capacity part.worker (act_of old) before ≡ true
     pub sound : new.fault ≡ old.fault
     pub told : new.driver.told ≡ old.driver.told
     pub faults : new.driver.faults ≡ old.driver.faults
-    pub event : IsTrue old.driver.told → Leaves part.worker (act_of old) new.core before after
+    pub rest : Leaves part.worker (act_of old) (λ next. new.core ≡ framed_as new.core next) before after
+    pub event : IsTrue old.driver.told → Leaves part.worker (act_of old) (λ next. new.core ≡ next) before after
 
   -- A turn that the driver stopped: it fell at one of the calls of the turn, and all else stays.
   pub record Fails (capacity : ℕ) (old new : Seat rules.State) (before after : Wires) (fault : DriverFault) :

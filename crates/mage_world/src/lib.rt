@@ -1,10 +1,12 @@
 //! The core as a value that takes events one by one.
 #![tactic(auto)]
 
+mod course;
 mod event;
 mod instructions;
 mod kinds;
 mod laws;
+mod ready;
 mod room;
 mod services;
 mod slot;

@@ -1,8 +1,8 @@
 // Slots, in which transfers of pages are under way.
-ghost use Rattle.std.specs.Prelude.{◌<◌, ℕ, length};
+ghost use Rattle.std.specs.Prelude.{◌≡◌, ◌<◌, ℕ, length};
 ghost use Rattle.mage_bank.specs.Bank.{contents, bank_of, AreOf};
 ghost use Rattle.mage_network.specs.Slots.{Reads, Writes};
-ghost use Rattle.mage_world.specs.Slots.{AreLong, AreWithin, Begins, Claims, Serves, EndsRead, EndsWrite};
+ghost use Rattle.mage_world.specs.Slots.{AreLong, AreWithin, Begins, Claims, Serves, EndsRead, EndsWrite, in_slots, is_idle, is_asked, is_busy, has_read, has_written};
 
 /// A page comes from the store, or goes to it.
 #[derive(Clone, Copy)]
@@ -147,5 +147,55 @@ pub(crate) fn end_write(slots: &mut Vec<Slot>, slot: u16) -> bool
             true
         }
         _ => false,
+    }
+}
+
+/// Whether a slot is idle; one that isn't there is.
+pub(crate) fn is_idle(slots: &[Slot], slot: u16) -> bool
+    ensures { result ≡ is_idle (in_slots slots.now slot) }
+{
+    match slots.get(usize::from(slot)) {
+        Some(slot) => matches!(slot.work, Work::Idle),
+        None => true,
+    }
+}
+
+/// Whether a slot is asked.
+pub(crate) fn is_asked(slots: &[Slot], slot: u16) -> bool
+    ensures { result ≡ is_asked (in_slots slots.now slot) }
+{
+    match slots.get(usize::from(slot)) {
+        Some(slot) => matches!(slot.work, Work::Asked(_)),
+        None => false,
+    }
+}
+
+/// Whether a slot's transfer is claimed.
+pub(crate) fn is_busy(slots: &[Slot], slot: u16) -> bool
+    ensures { result ≡ is_busy (in_slots slots.now slot) }
+{
+    match slots.get(usize::from(slot)) {
+        Some(slot) => matches!(slot.work, Work::Busy(_)),
+        None => false,
+    }
+}
+
+/// Whether a slot has what it read.
+pub(crate) fn has_read(slots: &[Slot], slot: u16) -> bool
+    ensures { result ≡ has_read (in_slots slots.now slot) }
+{
+    match slots.get(usize::from(slot)) {
+        Some(slot) => matches!(slot.work, Work::Served(Transfer::Read { .. })),
+        None => false,
+    }
+}
+
+/// Whether a slot has written its page.
+pub(crate) fn has_written(slots: &[Slot], slot: u16) -> bool
+    ensures { result ≡ has_written (in_slots slots.now slot) }
+{
+    match slots.get(usize::from(slot)) {
+        Some(slot) => matches!(slot.work, Work::Served(Transfer::Write { .. })),
+        None => false,
     }
 }

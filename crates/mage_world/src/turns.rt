@@ -78,8 +78,8 @@ fn go<D: Driver>(
     }
 }
 
-// The directive with this index; none past the last one.
-fn next_of(directives: &[Directive], place: u32) -> Option<Directive>
+/// The directive with this index; none past the last one.
+pub(crate) fn next_of(directives: &[Directive], place: u32) -> Option<Directive>
     ensures { result ≡ slice_get directives.now place }
 {
     directives.get(place as usize).copied()

@@ -1,18 +1,14 @@
 // The world.
-ghost use Rattle.std.specs.Prelude.{◌≡◌, ◌≤◌, length, IfOk, IfErr};
-ghost use Rattle.mage_network.specs.Slots as net;
+ghost use Rattle.std.specs.Prelude.{◌≡◌, ◌≤◌, ◌⊎◌, length, None, IfOk, IfErr, IfSome};
 ghost use Rattle.mage_verify.specs.Runs.{AreVerified};
-ghost use Rattle.mage_world.specs.Worlds.{IsTurn, IsService, seen, opened, AllRun, Applies, HappensAt};
+ghost use Rattle.mage_world.specs.Progress.{IsFinal, HasFailed};
+ghost use Rattle.mage_world.specs.Ready.{Readies};
+ghost use Rattle.mage_world.specs.Worlds.{seen, opened, AllRun, Applies};
 
-use crate::event::{ApplyError, Event, Kind};
-use crate::room::room_for;
-use crate::services::{claim_slot, serve_slot};
-use crate::turns::take_turn;
-use crate::worker::Worker;
+use crate::course::Course;
+use crate::event::{ApplyError, Event};
 use mage_base::Memory;
-use mage_circuit::Scratch;
 use mage_driver::Driver;
-use mage_link::QueueLink;
 use mage_verify::Part;
 use std::alloc::Global;
 use std::marker::Model;
@@ -21,30 +17,18 @@ use std::marker::Model;
 /// one by one.
 #[derive(Drop)]
 pub struct World<D: Driver> {
-    parts: Vec<Part>,
-    drivers: Vec<D>,
-    workers: Vec<Worker>,
-    links: QueueLink,
-    scratch: Scratch<D>,
+    course: Course<D>,
 }
 
 impl<D: Driver> Model for World<D> {
-    ghost use Rattle.std.specs.Prelude.{map};
-    ghost use Rattle.mage_world.specs.Seats.{state_of};
-    ghost use Rattle.mage_world.specs.Worlds.{WorldState, IsWorld};
+    ghost use Rattle.mage_world.specs.Worlds.{WorldState, seen};
+    ghost use Rattle.mage_world.specs.Progress.{IsOnItsWay};
 
     ghost Value = { WorldState D };
 
-    ghost view = { λ world. record {
-      parts = world.parts.items;
-      drivers = world.drivers.items;
-      workers = map state_of world.workers.items;
-      capacity = world.links.capacity;
-      links = world.links.links;
-    } };
+    ghost view = { λ world. world.course };
 
-    ghost invariant = { λ world. IsWorld D.rules D.tells world.parts.items world.drivers.items
-        world.workers.items world.links.workers };
+    ghost invariant = { λ world. IsOnItsWay (seen D.rules D.tells world.course) };
 }
 
 impl<D: Driver> World<D> {
@@ -65,15 +49,9 @@ impl<D: Driver> World<D> {
             ≡ opened D.rules D.tells parts.items drivers.items capacity) }
         ensures back { IfErr result (λ back. back.0.items ≡ drivers.items) }
     {
-        match room_for(alloc, parts.as_slice(), drivers.as_slice(), capacity) {
-            Ok(room) => Ok(World {
-                parts,
-                drivers,
-                workers: room.workers,
-                links: room.links,
-                scratch: room.scratch,
-            }),
-            Err(memory) => Err((drivers, memory)),
+        match Course::make(alloc, parts, drivers, capacity) {
+            Ok(course) => Ok(World { course }),
+            Err(back) => Err(back),
         }
     }
 
@@ -84,64 +62,24 @@ impl<D: Driver> World<D> {
         ensures { Applies D.rules (seen D.rules D.tells self.old) (seen D.rules D.tells self.new)
             event result }
     {
-        match event {
-            Event::Do { w } => self.turn(w, Kind::Do),
-            Event::Ask { w } => self.turn(w, Kind::Ask),
-            Event::Claim { w, slot } => self.claim(w, slot),
-            Event::Serve { w, slot } => self.serve(w, slot),
-            Event::Finish { w } => self.turn(w, Kind::Finish),
-            Event::Push { w } => self.turn(w, Kind::Push),
-            Event::Pop { w } => self.turn(w, Kind::Pop),
-        }
+        self.course.apply(event)
     }
 
-    // A turn of a worker.
-    fn turn(&mut self, w: u16, kind: Kind) -> Result<(), ApplyError>
-        ensures { HappensAt D.rules (seen D.rules D.tells self.old) (seen D.rules D.tells self.new)
-            w (IsTurn kind) result }
+    /// An event that is enabled; none exactly where no event is. Where no driver has failed, `None` comes only at the end,
+    /// where each worker has done its directives, its driver is finished and no slot is in flight. It is the first event of
+    /// the lowest worker that has one, a turn before claims and services. It takes no memory.
+    pub fn ready(&self) -> Option<Event>
+        ensures enabled { Readies D.rules (seen D.rules D.tells self.now) result }
+        ensures ended { result ≡ None → HasFailed (seen D.rules D.tells self.now)
+            ⊎ IsFinal (seen D.rules D.tells self.now) }
     {
-        let n = usize::from(w);
-        if n >= self.parts.len() {
-            return Err(ApplyError::NotEnabled);
-        }
-        take_turn(
-            &mut self.drivers[n],
-            &self.parts[n],
-            &mut self.workers[n],
-            &mut self.links,
-            &mut self.scratch,
-            kind,
-        )
-    }
-
-    // The transfer of a slot is claimed.
-    fn claim(&mut self, w: u16, slot: u16) -> Result<(), ApplyError>
-        ensures { HappensAt D.rules (seen D.rules D.tells self.old) (seen D.rules D.tells self.new)
-            w (IsService (net.Claims slot)) result }
-    {
-        let n = usize::from(w);
-        if n >= self.parts.len() {
-            return Err(ApplyError::NotEnabled);
-        }
-        claim_slot(&self.drivers[n], &self.parts[n], &mut self.workers[n], slot)
-    }
-
-    // The transfer of a slot is served.
-    fn serve(&mut self, w: u16, slot: u16) -> Result<(), ApplyError>
-        ensures { HappensAt D.rules (seen D.rules D.tells self.old) (seen D.rules D.tells self.new)
-            w (IsService (net.Serves slot)) result }
-    {
-        let n = usize::from(w);
-        if n >= self.parts.len() {
-            return Err(ApplyError::NotEnabled);
-        }
-        serve_slot(&self.drivers[n], &self.parts[n], &mut self.workers[n], slot)
+        self.course.ready()
     }
 
     /// The drivers, one for each worker.
     pub fn drivers(&self) -> &[D]
         ensures { result.now ≡ self.now.drivers }
     {
-        self.drivers.as_slice()
+        self.course.drivers()
     }
 }

@@ -1,22 +1,10 @@
+use Rattle.mage_world.specs.Worlds.{seen, worker_in, what_in}
+use Rattle.mage_world.proofs.Arriving.{stays_on_its_way}
 use Rattle.mage_world.proofs.world.World.apply.Goals as goal
 
-pub returns-in-Do : goal.returns-in-Do
-returns-in-Do g c = rw c.in-Do.is c.turn.ensures
-
-pub returns-in-Ask : goal.returns-in-Ask
-returns-in-Ask g c = rw c.in-Ask.is c.turn-in-Ask.ensures
-
-pub returns-in-Claim : goal.returns-in-Claim
-returns-in-Claim g c = rw c.in-Claim.is c.claim.ensures
-
-pub returns-in-Serve : goal.returns-in-Serve
-returns-in-Serve g c = rw c.in-Serve.is c.serve.ensures
-
-pub returns-in-Finish : goal.returns-in-Finish
-returns-in-Finish g c = rw c.in-Finish.is c.turn-in-Finish.ensures
-
-pub returns-in-Push : goal.returns-in-Push
-returns-in-Push g c = rw c.in-Push.is c.turn-in-Push.ensures
-
-pub returns-in-Pop : goal.returns-in-Pop
-returns-in-Pop g c = rw c.in-Pop.is c.turn-in-Pop.ensures
+pub invariant_of-self : goal.invariant_of-self
+invariant_of-self g c =
+    let rules = g.D.Driver.rules in
+    let tells = g.D.Driver.tells in
+    stays_on_its_way rules (seen rules tells c.self.inside.course) (seen rules tells c.apply.new.self) (worker_in c.args.event) (what_in c.args.event)
+    c.apply.result c.self.invariant c.apply.ensures

@@ -3,7 +3,7 @@ use Rattle.std.proofs.lemmas.Option.{slice_get_read}
 use Rattle.mage_world.specs.Seats.{IsLinked}
 use Rattle.mage_world.specs.Worlds.{IsTurn, HappensAt, IsWorld}
 use Rattle.mage_world.proofs.WorldLemmas.{linked, stands_here, world_both, view, turn_seen}
-use Rattle.mage_world.proofs.world.World.turn.Goals as goal
+use Rattle.mage_world.proofs.course.Course.turn.Goals as goal
 
 pub take_turn-requires-clause-stands : goal.take_turn-requires-clause-stands
 take_turn-requires-clause-stands g c κs bounds =

@@ -3,7 +3,7 @@ use Rattle.std.proofs.lemmas.Option.{slice_get_read}
 use Rattle.mage_network.specs.Slots as net
 use Rattle.mage_world.specs.Worlds.{IsService, HappensAt}
 use Rattle.mage_world.proofs.WorldLemmas.{stands_here, world_worker, view, service_seen}
-use Rattle.mage_world.proofs.world.World.serve.Goals as goal
+use Rattle.mage_world.proofs.course.Course.serve.Goals as goal
 
 pub serve_slot-requires-after_bounds : goal.serve_slot-requires-after_bounds
 serve_slot-requires-after_bounds g c κs bounds =
