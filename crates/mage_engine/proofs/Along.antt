@@ -40,7 +40,7 @@ heard_more lists page bytes = fun_ext (λ p. ap (λ b. answers_in (cond b (lists
     go p true e = answered_last (lists p) page bytes ∙ ap (λ k. answers_in (lists k) ++ bytes ∷ []) (sym (eqb-true page p e))
     go p false e = refl
 
-sent_more : (wires : Wires) (worker target : ℕ) (wire : List ℕ) →
+pub sent_more : (wires : Wires) (worker target : ℕ) (wire : List ℕ) →
     (λ t. with_wire wires worker target wire worker t) ≡ put (λ t. wires worker t) target (appended (wires worker target) wire)
 sent_more wires worker target wire = fun_ext (λ t. ap (λ b. cond (b && nat_eq target t) (appended (wires worker target) wire) (wires worker t)) (eq-eqb worker worker refl))
 
@@ -48,7 +48,7 @@ and_true : (b : Bool) → (b && true) ≡ b
 and_true true = refl
 and_true false = refl
 
-received_more : (wires : Wires) (source worker : ℕ) (wire : List ℕ) →
+pub received_more : (wires : Wires) (source worker : ℕ) (wire : List ℕ) →
     (λ s. with_wire wires source worker wire s worker) ≡ put (λ s. wires s worker) source (appended (wires source worker) wire)
 received_more wires source worker wire = fun_ext (λ s.
     ap (λ b. cond (nat_eq source s && b) (appended (wires source worker) wire) (wires s worker)) (eq-eqb worker worker refl)

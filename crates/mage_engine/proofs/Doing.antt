@@ -23,7 +23,7 @@ use Rattle.mage_verify.specs.Leaving.{is_left}
 use Rattle.mage_engine.specs.declared.turn.Kind.TheVariants as kind
 use Rattle.mage_engine.specs.Seen.{Seen, directive_at, is_finished, engine_with, worker_with, HoldSame}
 use Rattle.mage_engine.specs.Ready.{IsAt, Stands, wires_of, wires_of_op}
-use Rattle.mage_engine.specs.Steps.{IsMove, Happens, OverLink, AtLink, AtPort, kind_of, kind_of_op, place_after, wire_after, standing_after, calls_of, next_with}
+use Rattle.mage_engine.specs.Steps.{IsMove, Happens, OverLink, AtLink, AtPort, Asks, kind_of, kind_of_op, place_after, wire_after, standing_after, calls_of, next_with}
 use Rattle.mage_engine.proofs.Advancing.{left_here, ready, ready_of, running, next_ready}
 use Rattle.mage_engine.proofs.Using.{circuit_same, stored_same, other_before}
 use Rattle.mage_engine.proofs.Moving.{EventAt, Behind, moved_so, stands_so, same_driver}
@@ -47,7 +47,7 @@ module _ {W : Type 0} (rules : Rules W) (wb : ℕ) (finished : Bool) (old : Seen
   pub freshened : (new : Seen rules.State) → new ≡ record old { place = old.place + 1; bank = clean } → (link : LinkTold) → IsMove rules old new link link kind.Do
   freshened new is link =
       moved_so rules old (entry.Fresh frame page) at wb finished stands refl new old.driver old.port clean kind.Do is refl
-      (same_driver rules old (entry.Fresh frame page) at wb finished stands refl) refl link refl
+      (same_driver rules old (entry.Fresh frame page) at wb finished stands refl) refl tt link refl
       (λ told bank same. (put bank frame (cleared rules old.part.limits.page), fresh_holds bank same, (refl, refl, refl)))
       (λ told. tt)
 
@@ -93,6 +93,7 @@ module _ {W : Type 0} (rules : Rules W) (wb : ℕ) (old : Seen rules.State) (sou
   finished_move link = record {
     of_kind = ap kind_of (sym past);
     port = subst (λ (o : Option Directive). AtPort o old.bank old.bank old.port old.port) (sym past) refl;
+    asks = subst (λ (o : Option Directive). Asks o old.port) (sym past) tt;
     link = subst (λ (o : Option Directive). AtLink o old.part.worker link link) (sym past) refl;
     driver = answered.rest ∙ ap (λ (o : Option Directive). record old.driver { state = driver.state; standing = standing_after o }) (sym past);
     rest = ap (λ (o : Option Directive). record old { driver = driver; place = place_after o old.wire old.place; wire = wire_after o old.wire }) (sym past);
@@ -155,7 +156,7 @@ module _ {W : Type 0} (rules : Rules W) (wb : ℕ) (finished : Bool) (old : Seen
       (IsTrue old.driver.told → NoneIsDue rules (circuit_on rules job old.bank old.driver.state).calls) →
       (link : LinkTold) → IsMove rules old new link link kind.Do
   did new is reached stored passed link =
-      moved_so rules old (entry.Do job) at wb finished stands one new driver old.port bank' kind.Do is (of_do job.op made) runs refl link (beside_link job.op made job.imm old.part.worker link) event
+      moved_so rules old (entry.Do job) at wb finished stands one new driver old.port bank' kind.Do is (of_do job.op made) runs refl tt link (beside_link job.op made job.imm old.part.worker link) event
       (λ told. subst (λ (a : Acting rules). NoneIsDue rules (calls_of rules (Acts a))) (computes_when rules job.op made job (engine_with old old.bank)) (passed told))
     where
       running_both : is_finished old.driver.standing ≡ is_finished driver.standing

@@ -161,7 +161,7 @@ module _ {W : Type 0} (rules : Rules W) (wb : ℕ) (finished : Bool) (old : Seen
           (same_driver rules old (entry.FinishIn slot frame) at wb finished stands refl)
           (subst (λ (b : List ℕ). Brings old.port (after_read old.port slot reads.0 bytes) slot b (slot_state old.port slot)) (sym (put_here old.bank frame bytes))
           (subst (λ (p : PortTold). Brings old.port p slot bytes (slot_state old.port slot)) after_is brings))
-          link refl (λ told. event_in link) (λ told. tt)
+          tt link refl (λ told. event_in link) (λ told. tt)
 
       pub stands_in : (new : Seen rules.State) →
           new ≡ record old { port = after; place = old.place + 1; bank = put old.bank frame bytes } →
@@ -229,7 +229,7 @@ module _ {W : Type 0} (rules : Rules W) (wb : ℕ) (finished : Bool) (old : Seen
           (is ∙ ap (λ (p : PortTold). record old { port = p; place = old.place + 1 }) after_is_out) refl
           (same_driver rules old (entry.FinishOut slot) at wb finished stands refl)
           (subst (λ (p : PortTold). Saves old.port p slot (slot_state old.port slot)) after_is_out saves)
-          link refl (λ told. event_out link) (λ told. tt)
+          tt link refl (λ told. event_out link) (λ told. tt)
 
       pub stands_out : (new : Seen rules.State) →
           new ≡ record old { port = after; place = old.place + 1 } →

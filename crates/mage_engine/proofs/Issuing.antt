@@ -75,7 +75,7 @@ module _ {W : Type 0} (rules : Rules W) (wb : ℕ) (finished : Bool) (old : Seen
         (link : LinkTold) → IsMove rules old new link link kind.Ask
     issued_in new is link =
         moved_so rules old (entry.IssueIn slot page) at wb finished stands refl new old.driver (with_state old.port slot (AskedRead page)) old.bank kind.Ask is refl
-        (same_driver rules old (entry.IssueIn slot page) at wb finished stands refl) refl link refl (λ told. event_in link)
+        (same_driver rules old (entry.IssueIn slot page) at wb finished stands refl) refl can_read link refl (λ told. event_in link)
         (λ told. tt)
 
     pub stands_in : (new : Seen rules.State) →
@@ -133,7 +133,7 @@ module _ {W : Type 0} (rules : Rules W) (wb : ℕ) (finished : Bool) (old : Seen
         (link : LinkTold) → IsMove rules old new link link kind.Ask
     issued_out new filled others is link =
         moved_so rules old (entry.IssueOut slot frame page) at wb finished stands refl new old.driver (with_state old.port slot (AskedWrite page (old.bank frame))) filled kind.Ask is refl
-        (same_driver rules old (entry.IssueOut slot frame page) at wb finished stands refl) refl link refl (λ told. event_out filled others link)
+        (same_driver rules old (entry.IssueOut slot frame page) at wb finished stands refl) refl asked_out link refl (λ told. event_out filled others link)
         (λ told. tt)
 
     pub stands_out : (new : Seen rules.State) (filled : ℕ → List ℕ) →

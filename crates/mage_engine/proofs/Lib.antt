@@ -7,6 +7,7 @@ mod Issuing
 mod Finishing
 mod Opening
 mod Using
+pub mod Calling
 mod Doing
 mod Passing
 pub mod Staying

@@ -12,7 +12,7 @@ use Rattle.mage_steps.specs.Engines.{doing_of, doing_at}
 use Rattle.mage_engine.specs.declared.turn.Kind.{Kind}
 use Rattle.mage_engine.specs.Seen.{Seen, directive_at, engine_with, worker_with, HoldSame}
 use Rattle.mage_engine.specs.Ready.{IsAt, IsReady, Stands, wires_of}
-use Rattle.mage_engine.specs.Steps.{kind_of, place_after, wire_after, standing_after, AtPort, AtLink, Happens, IsEvent, IsMove, calls_of, next_with}
+use Rattle.mage_engine.specs.Steps.{kind_of, place_after, wire_after, standing_after, AtPort, Asks, AtLink, Happens, IsEvent, IsMove, calls_of, next_with}
 use Rattle.mage_engine.proofs.Advancing.{wire_within, running, stands_of}
 
 module _ {W : Type 0} (rules : Rules W) (old : Seen rules.State) (x : Directive) (at : IsAt old x) where
@@ -65,14 +65,15 @@ module _ {W : Type 0} (rules : Rules W) (old : Seen rules.State) (x : Directive)
     pub moved_so : (new : Seen rules.State) (driver : Told rules.State) (port : PortTold) (bank : ℕ → List ℕ) (moved : Kind) →
         new ≡ record old { driver = driver; port = port; place = old.place + 1; bank = bank } →
         moved ≡ kind_of (Some x) → driver ≡ record old.driver { state = driver.state; standing = standing.Running } →
-        AtPort (Some x) old.bank bank old.port port → (link : LinkTold) → AtLink (Some x) old.part.worker link link →
+        AtPort (Some x) old.bank bank old.port port → Asks (Some x) old.port → (link : LinkTold) → AtLink (Some x) old.part.worker link link →
         (IsTrue old.driver.told → EventAt (Behind driver port bank) link link) →
         (IsTrue old.driver.told → NoneIsDue rules (calls_of rules (doing_of rules old.part.limits.page x (engine_with old old.bank)))) →
         IsMove rules old new link link moved
-    moved_so new driver port bank moved is kind runs ported link linked event passed =
+    moved_so new driver port bank moved is kind runs ported asks link linked event passed =
         subst (λ (n : Seen rules.State). IsMove rules old n link link moved) (sym (is ∙ behind_is driver port bank)) (record {
           of_kind = kind ∙ ap kind_of (sym at.here);
           port = subst (λ (o : Option Directive). AtPort o old.bank bank old.port port) (sym at.here) ported;
+          asks = subst (λ (o : Option Directive). Asks o old.port) (sym at.here) asks;
           link = subst (λ (o : Option Directive). AtLink o old.part.worker link link) (sym at.here) linked;
           driver = runs ∙ ap (λ (o : Option Directive). record old.driver { state = driver.state; standing = standing_after o }) (sym at.here);
           rest = ap₂ (λ (p w : ℕ). record old { driver = driver; port = port; place = p; wire = w; bank = bank }) place_is wire_is;

@@ -23,7 +23,7 @@ use Rattle.mage_engine.specs.declared.turn.Kind.{Kind}
 use Rattle.mage_engine.specs.declared.turn.Kind.TheVariants as kind
 use Rattle.mage_engine.specs.Seen.{Seen, engine_with, worker_with, HoldSame}
 use Rattle.mage_engine.specs.Ready.{IsAt, IsReady, Stands, wires_of, wires_of_op}
-use Rattle.mage_engine.specs.Steps.{IsMove, OverLink, AtLink, Happens, AtPort, kind_of, kind_of_op, place_after, wire_after, standing_after, calls_of}
+use Rattle.mage_engine.specs.Steps.{IsMove, OverLink, AtLink, Happens, AtPort, Asks, kind_of, kind_of_op, place_after, wire_after, standing_after, calls_of}
 use Rattle.mage_engine.proofs.Advancing.{ready, running, meets, is_directive, wire_within, next_ready, wire_ready, stands_of}
 use Rattle.mage_engine.proofs.Using.{first_same, written_same, other_before}
 use Rattle.mage_engine.proofs.Moving.{EventAt, event_so, passed_so}
@@ -83,6 +83,7 @@ module _ {W : Type 0} (rules : Rules W) (wb : ℕ) (finished : Bool) (old : Seen
         subst (λ (n : Seen rules.State). IsMove rules old n before after moved) (sym is) (record {
           of_kind = of ∙ ap kind_of (sym at.here);
           port = subst (λ (o : Option Directive). AtPort o old.bank bank old.port old.port) (sym at.here) refl;
+          asks = subst (λ (o : Option Directive). Asks o old.port) (sym at.here) tt;
           link = subst (λ (o : Option Directive). AtLink o old.part.worker before after) (sym at.here) linked;
           driver = ap (λ s. record old.driver { state = old.driver.state; standing = s }) (running wb finished old (entry.Do job) at stands)
               ∙ ap (λ (o : Option Directive). record old.driver { state = old.driver.state; standing = standing_after o }) (sym at.here);

@@ -16,7 +16,7 @@ use Rattle.mage_driver.specs.declared.standing.Standing.TheVariants as standing
 use Rattle.mage_driver.specs.Rules.{Rules}
 use Rattle.mage_driver.specs.Calls.{Call, NoneIsDue, Fell}
 use Rattle.mage_link.specs.Links.{LinkTold, after_send, after_receive, after_wait, IsFull, IsDrained}
-use Rattle.mage_port.specs.Port.{PortTold, Transfers, AskedRead, AskedWrite, slot_state, with_state, with_transfer, Brings, Saves, Fails, Spoils, KeepsOn, IsUnderWay}
+use Rattle.mage_port.specs.Port.{PortTold, Transfers, AskedRead, AskedWrite, CanAsk, CanRead, slot_state, with_state, with_transfer, Brings, Saves, Fails, Spoils, KeepsOn, IsUnderWay}
 use Rattle.mage_port.specs.declared.ready.PortWait.TheVariants as waits
 use Rattle.mage_steps.specs.Engines.{Engine, Next, doing, opened}
 use Rattle.mage_engine.specs.declared.turn.Kind.{Kind}
@@ -79,6 +79,12 @@ AtPort (Some (entry.IssueOut slot frame page)) bank filled before after =
 AtPort (Some (entry.FinishOut slot)) bank filled before after =
     Saves before after slot (slot_state before slot)
 AtPort _ bank filled before after = after ≡ before
+
+-- What holds of the port at an issue: the slot is idle, no slot has the page, and one that is to be read was written.
+abbrev pub Asks : Option Directive → PortTold → Type 0
+Asks (Some (entry.IssueIn slot page)) port = CanRead port slot page
+Asks (Some (entry.IssueOut slot frame page)) port = CanAsk port slot page
+Asks _ port = Unit {0}
 
 -- The same to the links: a Send sends one wire to its worker, a Recv receives one, and no other directive touches them.
 abbrev pub OverLink : Op → (imm worker : ℕ) → (before after : LinkTold) → Type 0
@@ -153,6 +159,7 @@ module _ {W : Type 0} (rules : Rules W) where
   pub record IsMove (old new : Seen rules.State) (before after : LinkTold) (moved : Kind) : Type 0 where
     pub of_kind : moved ≡ kind_of (directive_at old)
     pub port : AtPort (directive_at old) old.bank new.bank old.port new.port
+    pub asks : Asks (directive_at old) old.port
     pub link : AtLink (directive_at old) old.part.worker before after
     pub driver : new.driver ≡ record old.driver {
       state = new.driver.state;
