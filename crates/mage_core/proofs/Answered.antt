@@ -23,7 +23,7 @@ use Rattle.mage_core.proofs.Joined.{answers_of, answers_are, ended_joint}
 use Rattle.mage_core.proofs.Ending.{handed_so}
 use Rattle.mage_core.proofs.Whole.{sight, drivers_in, stores_in, unmap, some_one, head_one, driver_at, store_at}
 
-none_beyond : {X : Type 0} (xs : List X) (w : ℕ) → slice_get xs w ≡ None → length xs ≤ w
+pub none_beyond : {X : Type 0} (xs : List X) (w : ℕ) → slice_get xs w ≡ None → length xs ≤ w
 none_beyond [] zero e = omega arith
 none_beyond [] (suc w) e = omega arith
 none_beyond (x ∷ xs) zero e = absurd cc

@@ -1,5 +1,5 @@
 -- The pieces of a whole run, put together.
-use Rattle.std.proofs.Common.{◌≡◌, ◌+◌, ◌++◌, ℕ, zero, suc, List, [], ◌∷◌, length, map, take, replicate, Option, None, Some, slice_get, refl, sym, ap, ap₂, ◌∙◌, subst, arith, length-append}
+use Rattle.std.proofs.Common.{◌≡◌, ◌+◌, ◌++◌, ◌⊎◌, ℕ, zero, suc, List, [], ◌∷◌, length, map, take, replicate, Option, None, Some, slice_get, refl, sym, ap, ap₂, ◌∙◌, subst, arith, length-append}
 use Rattle.std.proofs.lemmas.List.{length-reverse, length-map}
 use Rattle.std.specs.Prelude.{IfSome, reverse, Vec}
 use Rattle.std.specs.Global.{Global}
@@ -21,7 +21,9 @@ use Rattle.mage_instr.specs.declared.directive.MemProgram.{MemProgram}
 use Rattle.mage_directives.specs.Directives.{IsMemProgram}
 use Rattle.mage_verify.specs.Faults.{fault_of}
 use Rattle.mage_core.specs.Answered.{AreStates, AreTold, RunsAnswered}
+use Rattle.mage_core.specs.Joined.{RunsJoint, WasDeceived}
 use Rattle.mage_core.proofs.Answered.{runs_answered}
+use Rattle.mage_core.proofs.Either.{joint_or_deceived}
 use Rattle.mage_core.proofs.Whole.{map_reverse, all_reverse, starts_so, comes_so}
 
 -- as many machines as parts
@@ -113,6 +115,18 @@ module _ {W D S : Type 0} (rules : Rules W) (driver_tells : D → Told rules.Sta
         (subst (λ (s : List (List S)). RunsAnswered rules plan states starts (map driver_tells (drivers_of (reverse ms))) (map (λ shelf. map store_tells shelf) s)) (sym stores_end)
         (runs_answered rules driver_tells store_tells starts (reverse ms) (all_reverse (CameBy store_tells) ms came) (length-reverse ms ∙ count)
         plan fine sound parts states are told links e.0 e.1 e.2))
+
+    pub joint_end : (links : QueueState) (result : Option RunFault) → All (CameBy store_tells) ms →
+        EndsAs rules starts (sights driver_tells store_tells (reverse ms)) links result → result ≡ None → length ms ≡ length starts →
+        (plan : MemProgram) → IsMemProgram plan → fault_of plan ≡ None → map (λ (start : Start rules.State). start.part) starts ≡ parts_of plan →
+        (states : ℕ → rules.State) → AreStates starts states → AreTold starts →
+        RunsJoint rules plan states starts (map driver_tells drivers) (map (λ shelf. map store_tells shelf) (shelves stores))
+        ⊎ WasDeceived starts (map driver_tells drivers) (map (λ shelf. map store_tells shelf) (shelves stores))
+    joint_end links result came ends is count plan fine sound parts states are told =
+        let e = subst (λ (r : Option RunFault). EndsAs rules starts (sights driver_tells store_tells (reverse ms)) links r) is ends in
+        back_end (λ ds ss. RunsJoint rules plan states starts ds ss ⊎ WasDeceived starts ds ss)
+        (joint_or_deceived rules driver_tells store_tells starts (reverse ms) (all_reverse (CameBy store_tells) ms came) (length-reverse ms ∙ count)
+        plan fine sound parts states are told links e.0 e.1 e.2)
 
     pub ones_end : map (λ (shelf : List S). length shelf) (shelves stores) ≡ replicate (length ms) 1
     ones_end = ap (map (λ (shelf : List S). length shelf)) stores_end ∙ ones (λ (m : RunMachine D S). store_of m) (reverse ms)

@@ -19,6 +19,8 @@ use Rattle.mage_engine.specs.Ready.{Connects, wires_of, wires_of_op, target_of, 
 use Rattle.mage_engine.specs.Steps.{IsMove, AtPort, AtLink, OverLink, place_after, wire_after, first_worker}
 use Rattle.mage_engine.proofs.Along.{still_along}
 use Rattle.mage_core.specs.Turns.{SameWires}
+use Rattle.mage_core.specs.Paging.{first_paged}
+use Rattle.mage_core.proofs.Paging.{KeepsPaging, keeps_paging, over_still, over_on}
 use Rattle.mage_core.specs.Going.{Start, IsGoing, is_sound, read_in, reads_of, write_in, writes_of}
 use Rattle.mage_core.proofs.Storing.{contains_at, port_keeps}
 
@@ -282,6 +284,9 @@ module _ {W : Type 0} (rules : Rules W) (start : Start rules.State) (worker : �
         sends = λ m. a.sends m ∙ sym (leaves.sent m);
       };
     };
+    keeps = g.keeps;
+    over = λ is right. over_still rules (first_paged rules start.part.limits.page start.driver.state) machine (queue_told before) (queue_told after)
+        leaves.received leaves.sent (g.over is right);
   }
 
   -- answers that others wait leave it too
@@ -306,6 +311,9 @@ module _ {W : Type 0} (rules : Rules W) (start : Start rules.State) (worker : �
 
     goes_port : PortGoes (directive_at old) old.port new.port
     goes_port = port_goes (directive_at old) old.bank new.bank old.port new.port move.port
+
+    kept_port : KeepsPaging old.port new.port
+    kept_port = keeps_paging (directive_at old) old.bank new.bank old.port new.port move.port move.asks
 
     part_so : new.part ≡ start.part
     part_so = ap (λ (m : Seen rules.State). m.part) move.rest ∙ g.part
@@ -340,6 +348,9 @@ module _ {W : Type 0} (rules : Rules W) (start : Start rules.State) (worker : �
       connects = connects start.part g.connects;
       along = λ is. still_along rules (first_worker rules start.part.limits.page start.driver.state) old new (queue_told before) (queue_told after) kind move
           (subst IsTrue (sym g.told) is) (g.along is);
+      keeps = kept_port.keeps g.keeps;
+      over = λ is right. over_on rules (first_paged rules start.part.limits.page start.driver.state) old new (queue_told before) (queue_told after) kind move
+          g.sound (subst IsTrue (sym g.told) is) g.keeps right (g.over is (kept_port.right right));
     }
 
   -- a step of another machine leaves it

@@ -29,23 +29,23 @@ use Rattle.mage_core.proofs.Starting.{if_found, get_within, part_at}
 use Rattle.mage_core.proofs.Alike.{answered_ends}
 
 -- the part of a worker has the limits of its program
-part_limits : (limits : Limits) (stores : List ℕ) (first : ℕ) (workers : List (List Directive)) (w : ℕ) →
+pub part_limits : (limits : Limits) (stores : List ℕ) (first : ℕ) (workers : List (List Directive)) (w : ℕ) →
     IfSome (slice_get (parts_from limits stores first workers) w) (λ part. part.limits ≡ limits)
 part_limits limits stores first [] zero = tt
 part_limits limits stores first [] (suc w) = tt
 part_limits limits stores first (x ∷ xs) zero = refl
 part_limits limits stores first (x ∷ xs) (suc w) = part_limits limits stores (first + 1) xs w
 
-index_found : {X : Type 0} (xss : List (List X)) (w : ℕ) (xs : List X) → slice_get xss w ≡ Some xs → slice_index_or xss w [] ≡ xs
+pub index_found : {X : Type 0} (xss : List (List X)) (w : ℕ) (xs : List X) → slice_get xss w ≡ Some xs → slice_index_or xss w [] ≡ xs
 index_found [] zero xs e = absurd cc
 index_found [] (suc w) xs e = absurd cc
 index_found (ys ∷ xss) zero xs e = cc
 index_found (ys ∷ xss) (suc w) xs e = index_found xss w xs e
 
-found_below : {X : Type 0} (xs : List X) (w : ℕ) (x : X) → slice_get xs w ≡ Some x → nat_lt w (length xs) ≡ true
+pub found_below : {X : Type 0} (xs : List X) (w : ℕ) (x : X) → slice_get xs w ≡ Some x → nat_lt w (length xs) ≡ true
 found_below xs w x e = let below = get_within xs w x e in grind (arith, nat_tests)
 
-some_one : {X : Type 0} (x y : X) → Some x ≡ Some y → x ≡ y
+pub some_one : {X : Type 0} (x y : X) → Some x ≡ Some y → x ≡ y
 some_one x y e = cc
 
 begins_itself : {X : Type 0} (xs : List X) → IsPrefix xs xs

@@ -1,4 +1,6 @@
 mod Naming
+mod Keeping
+mod Paging
 mod Porting
 mod Holding
 mod Storing
@@ -15,6 +17,9 @@ mod Whole
 mod Answered
 mod Sufficing
 mod Issuing
+mod Deciding
+mod Jointly
+mod Either
 mod Reaching
 mod Finishing
 mod Lending

@@ -25,7 +25,9 @@ use Rattle.mage_core.specs.Stores.{IsOfPart}
 use Rattle.mage_core.specs.Made.{IsNew}
 use Rattle.mage_core.specs.Turns.{sights}
 use Rattle.mage_core.specs.Going.{IsGoing, HasGone, AllGo, start_of, is_sound, reads_of, writes_of}
+use Rattle.mage_core.specs.Paging.{GoesOverPages, first_paged}
 use Rattle.mage_core.proofs.Going.{some_wires}
+use Rattle.mage_core.proofs.Paging.{first_keeps, over_first}
 
 pub if_some : {X : Type 0} (P Q : X → Type 0) (o : Option X) → ((x : X) → o ≡ Some x → P x → Q x) → IfSome o P → IfSome o Q
 if_some P Q None f h = tt
@@ -167,6 +169,9 @@ module _ {W D S : Type 0} (rules : Rules W) (driver_tells : D → Told rules.Sta
     connects = connects;
     along = λ told. subst (λ (m : Seen rules.State). GoesAlong rules (first_worker rules machine.part.limits.page (driver_tells machine.driver).state) m (queue_told queues)) (sym new.opens)
         (along_first rules machine.part (driver_tells machine.driver) (port_tells store_tells machine.port) (queue_told queues) new.running new.unused unused);
+    keeps = first_keeps (port_tells store_tells machine.port) new.unused;
+    over = λ told right. subst (λ (m : Seen rules.State). GoesOverPages rules (first_paged rules machine.part.limits.page (driver_tells machine.driver).state) m (queue_told queues)) (sym new.opens)
+        (over_first rules machine.part (driver_tells machine.driver) (port_tells store_tells machine.port) (queue_told queues) new.running new.unused unused);
   }
 
   -- each machine stands at its start

@@ -16,6 +16,7 @@ use Rattle.mage_core.specs.declared.fault.RunFault.{RunFault}
 use Rattle.mage_core.specs.Ports.{RunMachine, first_of}
 use Rattle.mage_core.specs.Stores.{KeepsStore}
 use Rattle.mage_core.specs.Turns.{Falls}
+use Rattle.mage_core.specs.Paging.{AllRight, KeepsPages, GoesOverPages, first_paged}
 
 -- a worker as it was handed in: its part, and what its driver and its store told
 pub record Start (S : Type 0) : Type 0 where
@@ -68,6 +69,10 @@ pub record IsGoing {W : Type 0} (rules : Rules W) (start : Start rules.State) (w
   pub connects : Connects (queue_told links) start.part
   pub along : IsTrue start.driver.told → GoesAlong rules (first_worker rules start.part.limits.page start.driver.state)
       machine (queue_told links)
+  -- what its port keeps of pages; and as long as its answers are right, it went along its own run over pages
+  pub keeps : KeepsPages machine.port.pages (slot_state machine.port) machine.port.finished
+  pub over : IsTrue start.driver.told → AllRight machine.port.finished →
+      GoesOverPages rules (first_paged rules start.part.limits.page start.driver.state) machine (queue_told links)
 
 -- a worker as it stands at its machine before the first step
 abbrev pub start_of : {D S X : Type 0} → (D → Told X) → (S → StoreTold) → RunMachine D S → Start X

@@ -2,9 +2,11 @@ pub mod Ports
 pub mod Stores
 pub mod Made
 pub mod Turns
+pub mod Paging
 pub mod Going
 pub mod Reached
 pub mod Results
 pub mod Answered
 pub mod Issues
 pub mod Steady
+pub mod Joined

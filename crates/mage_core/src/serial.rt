@@ -1,5 +1,5 @@
 // The serial run.
-ghost use Rattle.std.specs.Prelude.{◌≡◌, ◌≤◌, ◌+◌, ℕ, [], None, Some, length, map, reverse, drop, IfOk, IfSome, slice_get, vec_capacity};
+ghost use Rattle.std.specs.Prelude.{◌≡◌, ◌≤◌, ◌+◌, ◌⊎◌, ℕ, [], None, Some, length, map, reverse, drop, IfOk, IfSome, slice_get, vec_capacity};
 ghost use Rattle.std.specs.List.{All};
 ghost use Rattle.mage_driver.specs.declared.standing.Standing.TheVariants as standing;
 ghost use Rattle.mage_link.specs.Queues.{new_queues, queue_told};
@@ -11,6 +11,7 @@ ghost use Rattle.mage_core.specs.Made.{HasStoreOf, Hold, IsEmptied, shelves};
 ghost use Rattle.mage_core.specs.Turns.{sights};
 ghost use Rattle.mage_core.specs.Results.{starts_of, Back, ComesTo};
 ghost use Rattle.mage_core.specs.Answered.{AreStates, AreTold, RunsAnswered};
+ghost use Rattle.mage_core.specs.Joined.{RunsJoint, WasDeceived};
 ghost use Rattle.mage_core.specs.Steady.{Suffices, IsNotOfStore, IsNotOfDriver, TellsAlike};
 ghost use Rattle.mage_base.specs.declared.failure.Damage.{Damage};
 ghost use Rattle.mage_instr.specs.declared.fault.DriverFault.{DriverFault};
@@ -132,6 +133,21 @@ pub fn solo<D: Driver, S: Store>(
         (map (λ shelf. map S.tells shelf) (shelves stores.items)))
         → result.fault ≡ None → RunsAnswered D.rules plan states
         (starts_of parts.items (map D.tells drivers.items)
+        (map (λ shelf. map S.tells shelf) (shelves stores.items)))
+        (map D.tells result.drivers.items)
+        (map (λ shelf. map S.tells shelf) (shelves result.stores.items)) }
+    ensures joint { (plan : MemProgram) (states : ℕ → D.rules.State) → IsMemProgram plan
+        → parts.items ≡ parts_of plan
+        → AreStates (starts_of parts.items (map D.tells drivers.items)
+        (map (λ shelf. map S.tells shelf) (shelves stores.items))) states
+        → AreTold (starts_of parts.items (map D.tells drivers.items)
+        (map (λ shelf. map S.tells shelf) (shelves stores.items)))
+        → result.fault ≡ None → RunsJoint D.rules plan states
+        (starts_of parts.items (map D.tells drivers.items)
+        (map (λ shelf. map S.tells shelf) (shelves stores.items)))
+        (map D.tells result.drivers.items)
+        (map (λ shelf. map S.tells shelf) (shelves result.stores.items))
+        ⊎ WasDeceived (starts_of parts.items (map D.tells drivers.items)
         (map (λ shelf. map S.tells shelf) (shelves stores.items)))
         (map D.tells result.drivers.items)
         (map (λ shelf. map S.tells shelf) (shelves result.stores.items)) }
