@@ -16,13 +16,14 @@ use Rattle.mage_core.specs.Ports.{RunMachine, store_of, CameBy}
 use Rattle.mage_core.specs.Made.{IsNew, HasStoreOf, Hold, shelves}
 use Rattle.mage_core.specs.Turns.{sights}
 use Rattle.mage_core.specs.Going.{Start, EndsAs, start_of}
-use Rattle.mage_core.specs.Results.{starts_of, ComesTo}
+use Rattle.mage_core.specs.Results.{starts_of, AllStay, ComesTo}
 use Rattle.mage_instr.specs.declared.directive.MemProgram.{MemProgram}
 use Rattle.mage_directives.specs.Directives.{IsMemProgram}
 use Rattle.mage_verify.specs.Faults.{fault_of}
 use Rattle.mage_core.specs.Answered.{AreStates, AreTold, RunsAnswered}
 use Rattle.mage_core.specs.Joined.{RunsJoint, WasDeceived}
 use Rattle.mage_core.proofs.Answered.{runs_answered}
+use Rattle.mage_core.proofs.Grown.{stays_so}
 use Rattle.mage_core.proofs.Either.{joint_or_deceived}
 use Rattle.mage_core.proofs.Whole.{map_reverse, all_reverse, starts_so, comes_so}
 
@@ -115,6 +116,13 @@ module _ {W D S : Type 0} (rules : Rules W) (driver_tells : D → Told rules.Sta
         (subst (λ (s : List (List S)). RunsAnswered rules plan states starts (map driver_tells (drivers_of (reverse ms))) (map (λ shelf. map store_tells shelf) s)) (sym stores_end)
         (runs_answered rules driver_tells store_tells starts (reverse ms) (all_reverse (CameBy store_tells) ms came) (length-reverse ms ∙ count)
         plan fine sound parts states are told links e.0 e.1 e.2))
+
+    pub stays_end : (links : QueueState) (result : Option RunFault) → All (CameBy store_tells) ms → EndsAs rules starts (sights driver_tells store_tells (reverse ms)) links result →
+        AllStay starts (map driver_tells drivers) (map (λ shelf. map store_tells shelf) (shelves stores))
+    stays_end links result came ends =
+        subst (λ (d : List D). AllStay starts (map driver_tells d) (map (λ shelf. map store_tells shelf) (shelves stores))) (sym drivers_end)
+        (subst (λ (s : List (List S)). AllStay starts (map driver_tells (drivers_of (reverse ms))) (map (λ shelf. map store_tells shelf) s)) (sym stores_end)
+        (stays_so rules driver_tells store_tells starts (reverse ms) (all_reverse (CameBy store_tells) ms came) links result ends))
 
     pub joint_end : (links : QueueState) (result : Option RunFault) → All (CameBy store_tells) ms →
         EndsAs rules starts (sights driver_tells store_tells (reverse ms)) links result → result ≡ None → length ms ≡ length starts →

@@ -14,6 +14,7 @@ mod Alike
 mod Joined
 mod Ending
 mod Whole
+mod Grown
 mod Answered
 mod Sufficing
 mod Issuing

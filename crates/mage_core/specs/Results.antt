@@ -40,6 +40,22 @@ pub record IsDone {S : Type 0} (start : Start S) (driver : Told S) (store : Stor
 abbrev pub Gained : (before after : StoreTold) → List Transfer → Type 0
 Gained before after made = after.log ≡ option_map (λ earlier. earlier ++ made) before.log
 
+-- What a store tells grew: no count fell, and its log only gained transfers.
+pub record Grew (before after : StoreTold) : Type 0 where
+  pub reads : before.reads ≤ after.reads
+  pub writes : before.writes ≤ after.writes
+  pub faults : before.faults ≤ after.faults
+  pub log : (made : List Transfer) × Gained before after made
+
+-- What stays of a worker, however a run ends: what its store tells grew, and its driver tells as much as before.
+pub record Stays {S : Type 0} (start : Start S) (driver : Told S) (store : StoreTold) : Type 0 where
+  pub grew : Grew start.store store
+  pub told : driver.told ≡ start.driver.told
+
+-- the same of each worker
+abbrev pub AllStay : {S : Type 0} → (starts : List (Start S)) → (drivers : List (Told S)) → (stores : List (List StoreTold)) → Type 0
+AllStay starts drivers stores = (w : ℕ) (back : Back starts drivers stores w) → Stays back.start back.driver back.store
+
 -- the worker that a fault names
 abbrev pub worker_of : RunFault → Option ℕ
 worker_of (fault.Store worker) = Some worker

@@ -9,7 +9,7 @@ ghost use Rattle.mage_core.specs.declared.fault.RunFault.TheVariants as fault;
 ghost use Rattle.mage_core.specs.Going.{EndsAs};
 ghost use Rattle.mage_core.specs.Made.{HasStoreOf, Hold, IsEmptied, shelves};
 ghost use Rattle.mage_core.specs.Turns.{sights};
-ghost use Rattle.mage_core.specs.Results.{starts_of, Back, ComesTo};
+ghost use Rattle.mage_core.specs.Results.{starts_of, AllStay, Back, ComesTo};
 ghost use Rattle.mage_core.specs.Answered.{AreStates, AreTold, RunsAnswered};
 ghost use Rattle.mage_core.specs.Joined.{RunsJoint, WasDeceived};
 ghost use Rattle.mage_core.specs.Steady.{Suffices, IsNotOfStore, IsNotOfDriver, TellsAlike};
@@ -125,6 +125,11 @@ pub fn solo<D: Driver, S: Store>(
         (map (λ shelf. map S.tells shelf) (shelves stores.items)))
         (map D.tells result.drivers.items)
         (map (λ shelf. map S.tells shelf) (shelves result.stores.items)) result.fault }
+    ensures stays { AllStay
+        (starts_of parts.items (map D.tells drivers.items)
+        (map (λ shelf. map S.tells shelf) (shelves stores.items)))
+        (map D.tells result.drivers.items)
+        (map (λ shelf. map S.tells shelf) (shelves result.stores.items)) }
     ensures answered { (plan : MemProgram) (states : ℕ → D.rules.State) → IsMemProgram plan
         → parts.items ≡ parts_of plan
         → AreStates (starts_of parts.items (map D.tells drivers.items)

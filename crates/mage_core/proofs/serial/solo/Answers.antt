@@ -4,14 +4,15 @@ use Rattle.mage_verify.specs.Parts.{WorkerPart}
 use Rattle.mage_verify.specs.Faults.{fault_in}
 use Rattle.mage_core.specs.Made.{shelves}
 use Rattle.mage_core.specs.Going.{Start}
-use Rattle.mage_core.specs.Results.{starts_of, Back}
+use Rattle.mage_core.specs.Results.{starts_of, Back, AllStay}
 use Rattle.mage_base.specs.Store.{StoreTold}
 use Rattle.mage_core.specs.Ports.{CameBy}
 use Rattle.mage_core.specs.Turns.{sights}
 use Rattle.mage_core.specs.Steady.{IsNotOfStore, IsNotOfDriver, TellsAlike}
 use Rattle.mage_core.proofs.Sufficing.{steady_end, untold_end, unfailing_end, faults_end, alike_end, back_same, alike_same}
-use Rattle.mage_core.proofs.Finishing.{back_end, comes_end, answered_end, joint_end, ones_end, ones_given, starts_parts, told_lengths, by_memory}
+use Rattle.mage_core.proofs.Finishing.{back_end, comes_end, stays_end, answered_end, joint_end, ones_end, ones_given, starts_parts, told_lengths, by_memory}
 use Rattle.mage_core.proofs.Whole.{all_reverse, but_for_memory}
+use Rattle.mage_core.proofs.Grown.{same_all}
 use Rattle.mage_core.proofs.Lending.{some_parts, few_parts, end_count}
 use Rattle.mage_core.proofs.serial.solo.Goals as goal
 
@@ -59,6 +60,23 @@ returns-clause-comes g c =
     let starts = starts_of c.args.parts.items (map g.D.Driver.tells c.args.drivers.items) (map (λ shelf. map g.S.Store.tells shelf) (shelves c.args.stores.items)) in
     but_for_memory starts (map g.D.Driver.tells c.close_all.new.drivers.items) (map (λ shelf. map g.S.Store.tells shelf) (shelves c.close_all.new.stores.items)) c.run_all-fault.result
     (λ not. comes_end g.D.Driver.rules g.D.Driver.tells g.S.Store.tells starts c.run_all-fault.new.machines.items c.run_all-fault.new.drivers.items
+    c.close_all.new.drivers.items c.run_all-fault.new.stores.items c.close_all.new.stores.items c.close_all.ensures.drivers c.close_all.ensures.stores
+    (c.run_all-fault.ensures.ran not).0 c.run_all-fault.new.link c.run_all-fault.result c.close_all.ensures.came (c.run_all-fault.ensures.ran not).1)
+
+pub returns-in_default-clause-stays : goal.returns-in_default-clause-stays
+returns-in_default-clause-stays g c =
+    same_all c.args.parts.items (map g.D.Driver.tells c.args.drivers.items) (map g.D.Driver.tells c.args.drivers.items)
+    (map (λ shelf. map g.S.Store.tells shelf) (shelves c.args.stores.items)) (map (λ shelf. map g.S.Store.tells shelf) (shelves c.args.stores.items)) refl refl
+
+pub returns-clause-stays : goal.returns-clause-stays
+returns-clause-stays g c =
+    let starts = starts_of c.args.parts.items (map g.D.Driver.tells c.args.drivers.items) (map (λ shelf. map g.S.Store.tells shelf) (shelves c.args.stores.items)) in
+    by_memory (AllStay starts (map g.D.Driver.tells c.close_all.new.drivers.items) (map (λ shelf. map g.S.Store.tells shelf) (shelves c.close_all.new.stores.items))) c.run_all-fault.result
+    (λ e. same_all c.args.parts.items (map g.D.Driver.tells c.args.drivers.items) (map g.D.Driver.tells c.close_all.new.drivers.items)
+    (map (λ shelf. map g.S.Store.tells shelf) (shelves c.args.stores.items)) (map (λ shelf. map g.S.Store.tells shelf) (shelves c.close_all.new.stores.items))
+    (ap (map g.D.Driver.tells) (c.close_all.ensures.drivers ∙ (c.run_all-fault.ensures.memory e).drivers_are))
+    (ap (map (λ shelf. map g.S.Store.tells shelf)) (c.close_all.ensures.stores ∙ (c.run_all-fault.ensures.memory e).stores_are)))
+    (λ not. stays_end g.D.Driver.rules g.D.Driver.tells g.S.Store.tells starts c.run_all-fault.new.machines.items c.run_all-fault.new.drivers.items
     c.close_all.new.drivers.items c.run_all-fault.new.stores.items c.close_all.new.stores.items c.close_all.ensures.drivers c.close_all.ensures.stores
     (c.run_all-fault.ensures.ran not).0 c.run_all-fault.new.link c.run_all-fault.result c.close_all.ensures.came (c.run_all-fault.ensures.ran not).1)
 
