@@ -1,0 +1,3 @@
+pub mod OrderKinds
+pub mod OrderParsing
+pub mod OrderSources
