@@ -100,7 +100,8 @@ fn run_all<D: Driver, S: Store>(
 /// they were. At each turn the lowest worker that can go on makes a step; the run ends once none can, which is where all have
 /// ended, or where one is stopped. A worker's fault is the first that a turn meets, which isn't always the first in the
 /// verifier's order: one that sends goes on while its link has room. Where each store suffices for its part no run stops for a
-/// store, and whatever a run comes to, a store has the pages that it had. Nothing is said of how long it takes.
+/// store, and whatever a run comes to, a store has the pages that it had. Without a fault, and where all drivers are told, each
+/// stands where the joint run ends, unless a store gave back another page of the same digest. Nothing is said of how long it takes.
 pub fn solo<D: Driver, S: Store>(
     alloc: Global,
     parts: Vec<Part>,
