@@ -1,0 +1,4 @@
+pub mod Stores
+pub mod Names
+pub mod Sinks
+pub mod Sources
