@@ -88,6 +88,13 @@ impl PlainDriver {
     {
         self.outputs.as_slice()
     }
+
+    /// The same, where the driver isn't needed any more.
+    pub fn into_outputs(self) -> Vec<u128>
+        ensures { result.items ≡ self.state.outputs }
+    {
+        self.outputs
+    }
 }
 
 // The next value of a list and the place after it; 0 past the last.
