@@ -1,5 +1,5 @@
 -- What a run in plain answers.
-use Rattle.std.proofs.Common.{◌≡◌, ◌⊎◌, inl, inr, ℕ, List, None, Some, Ok, Err, Result, length, slice_get, refl, sym, ◌∙◌}
+use Rattle.std.proofs.Common.{◌≡◌, ◌⊎◌, inl, inr, ℕ, List, None, Some, Ok, Err, Result, length, slice_get, refl, ◌∙◌}
 use Rattle.std.specs.Prelude.{IfSome, IfOk, IfErr, OnOk}
 use Rattle.mage_base.specs.declared.failure.Damage.{Damage}
 use Rattle.mage_base.specs.Store.{StoreTold}

@@ -16,7 +16,7 @@ use Rattle.mage_carried.specs.Laws.{Carries}
 use Rattle.mage_carried.proofs.Starting.{at_below, below_long, map_long, carried_so}
 use Rattle.mage_plain_runs.specs.Plainly.{is_output, outputs_in}
 use Rattle.mage_steps.specs.Core.{directives_of}
-use Rattle.mage_solo.specs.Plain.{puts_out, outputs_done}
+use Rattle.mage_solo.specs.Plain.{outputs_done}
 use Rattle.mage_solo.proofs.Lists.{found_below, index_found}
 
 -- each instruction is done in turn, by its opcode

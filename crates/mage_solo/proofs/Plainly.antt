@@ -20,7 +20,7 @@ use Rattle.mage_verify.specs.Faults.{fault_of}
 use Rattle.mage_verify.specs.Runs.{AreVerified}
 use Rattle.mage_verify.specs.Parts.{WorkerPart, parts_of, parts_from}
 use Rattle.mage_plain.specs.Plain.{Plain, PlainMoment, plain_rules, told_of}
-use Rattle.mage_plain_runs.specs.Plainly.{CanRunPlainly, RunsAsMeant}
+use Rattle.mage_plain_runs.specs.Plainly.{CanRunPlainly}
 use Rattle.mage_plain_runs.proofs.Carrying.{carried_means}
 use Rattle.mage_carried.specs.Laws.{Carries}
 use Rattle.mage_carried.proofs.Starting.{below_long, map_long, carried_so}
@@ -34,7 +34,7 @@ use Rattle.mage_core.specs.Results.{starts_of, Back}
 use Rattle.mage_solo.specs.Stores.{WereDeceived}
 use Rattle.mage_solo.specs.Plain.{opening, openings, outputs_done}
 use Rattle.mage_solo.proofs.Lists.{same_some, if_found, if_each, map_get, unmap, found_below, index_found, list_found, same_lists, Ones, ones_of}
-use Rattle.mage_solo.proofs.Workers.{start_at, at_start, at_store, starts, deceived_so}
+use Rattle.mage_solo.proofs.Workers.{start_at, at_start, at_store, deceived_so}
 use Rattle.mage_solo.proofs.Counting.{room_enough}
 use Rattle.mage_solo.proofs.Agreeing.{joint_agrees}
 

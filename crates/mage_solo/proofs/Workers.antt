@@ -5,7 +5,7 @@ use Rattle.std.specs.Prelude.{IfSome, IsSome, Vec}
 use Rattle.std.specs.Global.{Global}
 use Rattle.std.specs.List.{All}
 use Rattle.mage_base.specs.declared.failure.Damage.{Damage}
-use Rattle.mage_base.specs.Store.{StoreTold, Transfer}
+use Rattle.mage_base.specs.Store.{StoreTold}
 use Rattle.mage_driver.specs.Calls.{Told}
 use Rattle.mage_verify.specs.Parts.{WorkerPart}
 use Rattle.mage_core.specs.declared.fault.RunFault.TheVariants as fault
@@ -15,7 +15,7 @@ use Rattle.mage_core.specs.Made.{HasStoreOf, shelves}
 use Rattle.mage_core.specs.Results.{starts_of, Back, ComesTo, Grew, AllStay}
 use Rattle.mage_core.specs.Steady.{Suffices}
 use Rattle.mage_solo.specs.Stores.{Stored, AreMoved, HaveGrown, HasBroken, HasDamaged, WereDeceived, AllSuffice, SufficesFor}
-use Rattle.mage_solo.proofs.Lists.{same_some, if_found, if_each, map_get, unmap, found_beside, Ones, ones_of, mapped_ones}
+use Rattle.mage_solo.proofs.Lists.{same_some, if_found, if_each, map_get, unmap, found_beside, Ones, ones_of}
 
 -- the shelf of each worker has one store
 pub ones_given : {S : Type 0} (wire_bytes : ℕ) (tells : S → StoreTold) (parts : List WorkerPart) (stores : List (Vec S Global)) → length stores ≡ length parts →

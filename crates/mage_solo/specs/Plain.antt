@@ -5,9 +5,8 @@ use Rattle.mage_base.specs.Store.{StoreTold}
 use Rattle.mage_instr.specs.declared.directive.Directive.{Directive}
 use Rattle.mage_instr.specs.declared.directive.Directive.TheVariants as entry
 use Rattle.mage_driver.specs.declared.standing.Standing.TheVariants as standing
-use Rattle.mage_linked.specs.Workers.{list_at}
 use Rattle.mage_meaning.specs.Given.{Given}
-use Rattle.mage_plain.specs.Plain.{Plain, PlainMoment}
+use Rattle.mage_plain.specs.Plain.{PlainMoment}
 use Rattle.mage_plain_runs.specs.Plainly.{is_output}
 use Rattle.mage_verify.specs.Parts.{WorkerPart}
 use Rattle.mage_core.specs.declared.fault.RunFault.{RunFault}

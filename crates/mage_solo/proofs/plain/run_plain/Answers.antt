@@ -1,22 +1,21 @@
-use Rattle.std.proofs.Common.{◌≡◌, ◌<◌, ℕ, List, length, map, slice_get, Option, None, Some, refl, sym, ap, ◌∙◌, subst, arith}
+use Rattle.std.proofs.Common.{◌≡◌, ◌<◌, List, length, map, slice_get, Option, None, Some, sym, ap, ◌∙◌, subst, arith}
 use Rattle.std.proofs.lemmas.List.{length-map, length-reverse, reverse-reverse}
 use Rattle.std.specs.Prelude.{IfSome, reverse}
 use Rattle.std.specs.List.{All}
 use Rattle.mage_driver.specs.declared.standing.Standing.TheVariants as standing
-use Rattle.mage_driver.specs.Calls.{Told}
 use Rattle.mage_verify.specs.Parts.{WorkerPart}
 use Rattle.mage_verify.specs.Faults.{fault_in}
-use Rattle.mage_plain.specs.Plain.{Plain, PlainMoment, told_of}
+use Rattle.mage_plain.specs.Plain.{PlainMoment, told_of}
 use Rattle.mage_core.specs.declared.fault.RunFault.{RunFault}
 use Rattle.mage_core.specs.Made.{shelves}
 use Rattle.mage_core.specs.Results.{ComesTo, starts_of}
 use Rattle.mage_core.specs.Steady.{IsNotOfStore, IsNotOfDriver}
 use Rattle.mage_solo.specs.Stores.{told_by}
 use Rattle.mage_solo.specs.Plain.{lists_of, openings, outputs_kept}
-use Rattle.mage_solo.proofs.Lists.{Ones, ones_of, mapped_ones}
+use Rattle.mage_solo.proofs.Lists.{Ones, mapped_ones}
 use Rattle.mage_solo.proofs.Workers.{ones_given, grown_ones, moved_ones, suffices_ones}
 use Rattle.mage_solo.proofs.Answering.{err_so, ok_so, on_ok, ok_first, either, plain_stops, only_memory}
-use Rattle.mage_solo.proofs.Plainly.{parts_short, openings_count, all_run, are_told, told_end, said_end}
+use Rattle.mage_solo.proofs.Plainly.{parts_short, openings_count, all_run, told_end, said_end}
 use Rattle.mage_solo.proofs.plain.run_plain.Goals as goal
 
 pub prepare-requires-clause-few : goal.prepare-requires-clause-few
