@@ -1,6 +1,6 @@
 -- Sinks that are closed one after the other.
-use Rattle.std.proofs.Common.{◌≡◌, ◌≤◌, ◌<◌, ◌+◌, ◌++◌, ◌∷◌, ℕ, zero, suc, min, List, [], length, get_or, take, map, Option, Some, None, IfSome, Result, Ok, Err, String, refl, sym, ap, ap₂, subst, ◌∙◌, append_assoc, append-nil, length-append, arith}
-use Rattle.std.specs.Prelude.{IsOk, IsSome, OnOk, IsTrue, string_bytes}
+use Rattle.std.proofs.Common.{◌≡◌, ◌≤◌, ◌<◌, ◌+◌, ◌++◌, ◌∷◌, ℕ, suc, min, List, [], length, get_or, take, map, Option, Some, None, IfSome, Result, Ok, Err, String, refl, sym, ap, subst, ◌∙◌, append_assoc, append-nil, length-append, arith}
+use Rattle.std.specs.Prelude.{IsOk, IsSome, OnOk, string_bytes}
 use Rattle.std.specs.Global.{Global}
 use Rattle.std.specs.List.{All}
 use Rattle.std.proofs.lemmas.Bool.{false≢true}
@@ -8,7 +8,7 @@ use Rattle.std.proofs.Math.ListN.{get_or-map}
 use Rattle.std.proofs.Math.Seq.{get_or-append_seam}
 use Rattle.std.proofs.lemmas.List.{map-append, length-map, length-take-le, take_all}
 use Rattle.mage_base.specs.Desk.{DeskTold, Files, files_with, ClosesOut}
-use Rattle.mage_base.specs.Faults.{Rose, count_after, next_count, top}
+use Rattle.mage_base.specs.Faults.{Rose, count_after, top}
 use Rattle.mage_base.specs.Sink.{SinkTold}
 use Rattle.mage_lending.specs.Names.{spelled}
 use Rattle.mage_lending.specs.Sinks.{with_all, HaveFiles, AreTaken, AreFronts, with_faults, ClosesAll}

@@ -1,5 +1,5 @@
 -- Files that are emptied, filled, and found.
-use Rattle.std.proofs.Common.{◌≡◌, ◌≤◌, ◌<◌, ◌+◌, ◌++◌, ◌∷◌, ℕ, zero, suc, Bool, true, false, List, [], length, get_or, take, map, Option, Some, None, IfSome, refl, sym, ap, subst, ◌∙◌, arith, String}
+use Rattle.std.proofs.Common.{◌≡◌, ◌<◌, ◌+◌, ◌++◌, ◌∷◌, ℕ, zero, suc, Bool, true, false, List, [], length, get_or, take, Option, Some, None, IfSome, refl, sym, ap, subst, ◌∙◌, arith, String}
 use Rattle.std.specs.Prelude.{string_bytes, IsSome, if◌then◌else◌}
 use Rattle.std.specs.Str.{bytes_eq}
 use Rattle.std.specs.List.{All}

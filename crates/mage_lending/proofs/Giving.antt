@@ -1,9 +1,9 @@
 -- What is left after the workers' stores were given back one after the other.
-use Rattle.std.proofs.Common.{◌≡◌, ◌≢◌, ◌≤◌, ◌<◌, ◌+◌, ◌-◌, ◌++◌, ◌∷◌, ◌==◌, ◌&&◌, ℕ, zero, suc, Bool, true, false, cond, List, [], length, get_or, take, drop, map, Option, Some, None, Vec, Result, Ok, Err, refl, sym, ap, ap₂, subst, ◌∙◌, ◌⊎◌, append_assoc, append-nil, length-append, arith, rules, Contains}
-use Rattle.std.specs.Prelude.{nat_lt, slice_index_or, if◌then◌else◌}
-use Rattle.std.specs.List.{All, count_by}
+use Rattle.std.proofs.Common.{◌≡◌, ◌≤◌, ◌<◌, ◌+◌, ◌++◌, ◌∷◌, ◌==◌, ℕ, zero, suc, Bool, true, false, cond, List, [], length, get_or, take, map, Vec, Err, refl, sym, ap, ap₂, subst, ◌∙◌, append_assoc, append-nil, length-append, arith, Contains}
+use Rattle.std.specs.Prelude.{nat_lt, if◌then◌else◌}
+use Rattle.std.specs.List.{All}
 use Rattle.std.specs.Global.{Global}
-use Rattle.std.proofs.lemmas.Bool.{cases_Bool, cases_eq, and_parts, and_from, eqb-true, eq-eqb, ne_eqb}
+use Rattle.std.proofs.lemmas.Bool.{and_parts, and_from, eqb-true, eq-eqb, ne_eqb}
 use Rattle.std.proofs.lemmas.Bool.Decides.{nat_tests}
 use Rattle.std.proofs.lemmas.List.{map-append, take_more, length-map}
 use Rattle.std.proofs.lemmas.List.Elements.{Contains-append_right, All-cons, All-nil, All-head, All-tail}
@@ -14,7 +14,7 @@ use Rattle.mage_base.specs.declared.failure.DeskError.TheVariants as errors
 use Rattle.mage_base.specs.Desk.{DeskTold, StoreId, Returned, FaultCounted, IsNoFault, is_store, without_store, with_store, after_giving}
 use Rattle.mage_base.specs.Store.{StoreTold, new_store}
 use Rattle.mage_lending.specs.declared.stores.StoreOrder.{StoreOrder}
-use Rattle.mage_lending.specs.Stores.{own_store, own_stores, told_on, IsLent, AreLent, times, AreLentAgain, with_shelf, shelf_at, after_shelf, AreBack, with_unused, NoneAreLent}
+use Rattle.mage_lending.specs.Stores.{own_store, own_stores, told_on, IsLent, AreLent, times, with_shelf, shelf_at, after_shelf, AreBack, with_unused, NoneAreLent}
 
 -- ---- names
 

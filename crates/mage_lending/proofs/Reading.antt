@@ -1,5 +1,5 @@
 -- Sources that are opened one after the other, and closed.
-use Rattle.std.proofs.Common.{◌≡◌, ◌≤◌, ◌<◌, ◌+◌, ◌++◌, ◌∷◌, ℕ, zero, suc, min, List, [], length, get_or, map, Option, Some, None, IfSome, Result, Ok, Err, String, refl, sym, ap, subst, ◌∙◌, length-append, arith}
+use Rattle.std.proofs.Common.{◌≡◌, ◌≤◌, ◌<◌, ◌+◌, ◌++◌, ◌∷◌, ℕ, zero, suc, min, List, [], length, get_or, map, Option, Some, None, IfSome, Err, String, refl, sym, ap, subst, ◌∙◌, length-append, arith}
 use Rattle.std.specs.Prelude.{IsSome, IsTrue, string_bytes}
 use Rattle.std.specs.List.{All}
 use Rattle.std.specs.Global.{Global}
@@ -7,7 +7,7 @@ use Rattle.std.proofs.lemmas.List.{map-append}
 use Rattle.mage_base.specs.declared.failure.DeskError.{DeskError}
 use Rattle.mage_base.specs.declared.failure.DeskError.TheVariants as errors
 use Rattle.mage_base.specs.Desk.{DeskTold, Files, HandsSource, Finds, FaultCounted, IsNoFault, IsNotTooLong}
-use Rattle.mage_base.specs.Faults.{Rose, count_after, next_count, top}
+use Rattle.mage_base.specs.Faults.{Rose, count_after, top}
 use Rattle.mage_base.specs.Source.{SourceTold}
 use Rattle.mage_lending.specs.Names.{worker_file, worker_files, spelled}
 use Rattle.mage_lending.proofs.Files.{files_next, files_count}

@@ -1,5 +1,5 @@
 -- The workers' files that are written.
-use Rattle.std.specs.Prelude.{◌≡◌, ◌≤◌, ℕ, List, [], ◌∷◌, map, take, Option, IfSome, IsSome, Result, Ok, Err}
+use Rattle.std.specs.Prelude.{◌≡◌, ◌≤◌, ℕ, List, [], ◌∷◌, take, Option, IfSome, IsSome, Result, Ok, Err}
 use Rattle.std.specs.List.{All}
 use Rattle.mage_base.specs.declared.failure.DeskError.{DeskError}
 use Rattle.mage_base.specs.declared.failure.DeskError.TheVariants as errors

@@ -1,5 +1,5 @@
 -- The stores that workers borrow of a desk: each worker has one, in its own name and with the shard 0.
-use Rattle.std.specs.Prelude.{◌≡◌, ◌≤◌, ◌<◌, ◌+◌, ◌++◌, ℕ, zero, suc, nat_lt, Bool, List, [], ◌∷◌, length, map, slice_index_or, if◌then◌else◌, Option, Some, None, Result, Ok, Err, Vec}
+use Rattle.std.specs.Prelude.{◌≡◌, ◌≤◌, ◌<◌, ◌+◌, ◌++◌, ℕ, zero, suc, nat_lt, Bool, List, [], ◌∷◌, length, map, slice_index_or, if◌then◌else◌, Some, None, Result, Ok, Err, Vec}
 use Rattle.std.specs.List.{count_by}
 use Rattle.std.specs.Global.{Global}
 use Rattle.mage_base.specs.Desk.{DeskTold, StoreId, Returned, HandsStore, is_store, joined, with_store, after_giving}

@@ -1,5 +1,4 @@
-use Rattle.std.proofs.Common.{◌≡◌, Ok, Err, sym, subst, Result}
-use Rattle.mage_lending.specs.Sinks.{ClosesAll}
+use Rattle.std.proofs.Common.{Ok, Err}
 use Rattle.mage_lending.proofs.Closing.{closes_next}
 use Rattle.mage_lending.proofs.sinks.close_next.Goals as goal
 

@@ -1,4 +1,4 @@
-use Rattle.std.proofs.Common.{◌≡◌, ◌≤◌, ◌<◌, ◌++◌, ◌∷◌, [], List, length, refl, sym, ap, ◌∙◌, arith}
+use Rattle.std.proofs.Common.{◌≡◌, ◌≤◌, ◌<◌, List, length, refl, sym, ap, ◌∙◌, arith}
 use Rattle.mage_lending.proofs.Closing.{closes_none, as_many, closes_so, still_here, this_one, whole_next, quiet_next, closes_end, within_now}
 use Rattle.std.proofs.lemmas.List.{length_push}
 use Rattle.mage_base.specs.declared.failure.Failed.{Failed}

@@ -1,4 +1,4 @@
-use Rattle.std.proofs.Common.{◌≡◌, ◌≤◌, List, length, sym, ap, ◌∙◌, arith}
+use Rattle.std.proofs.Common.{arith}
 use Rattle.mage_lending.proofs.Opening.{open_none, open_next}
 use Rattle.mage_lending.proofs.sinks.open_each.Goals as goal
 

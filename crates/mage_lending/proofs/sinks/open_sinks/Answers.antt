@@ -1,4 +1,4 @@
-use Rattle.std.proofs.Common.{◌≡◌, ◌≤◌, List, String, length, map, sym, ap, subst, ◌∙◌, arith}
+use Rattle.std.proofs.Common.{List, String, length, map, sym, ap, subst, ◌∙◌}
 use Rattle.std.specs.Global.{Global}
 use Rattle.mage_lending.specs.declared.sinks.WorkerSinks.{WorkerSinks}
 use Rattle.mage_lending.specs.Names.{spelled}

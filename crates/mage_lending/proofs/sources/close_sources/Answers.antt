@@ -1,4 +1,4 @@
-use Rattle.std.proofs.Common.{◌≡◌, List, length, map, sym, ap, ◌∙◌, arith}
+use Rattle.std.proofs.Common.{List, length, map, sym, ap, ◌∙◌, arith}
 use Rattle.mage_lending.proofs.Reading.{after_sources, sources_begin, sources_next, sources_end}
 use Rattle.mage_lending.proofs.sources.close_sources.Goals as goal
 

@@ -1,4 +1,4 @@
-use Rattle.std.proofs.Common.{◌≡◌, ◌≤◌, List, String, length, map, ap, ◌∙◌, arith}
+use Rattle.std.proofs.Common.{List, String, length, map, ap, ◌∙◌}
 use Rattle.std.specs.Global.{Global}
 use Rattle.mage_base.specs.Desk.{DeskTold}
 use Rattle.mage_lending.specs.declared.sources.WorkerSources.{WorkerSources}

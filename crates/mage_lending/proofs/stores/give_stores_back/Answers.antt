@@ -1,4 +1,4 @@
-use Rattle.std.proofs.Common.{◌≡◌, ◌∷◌, List, Vec, length, refl, sym, ap, subst, ◌∙◌, arith}
+use Rattle.std.proofs.Common.{List, Vec, length, sym, ap, ◌∙◌, arith}
 use Rattle.std.specs.Global.{Global}
 use Rattle.mage_lending.proofs.Giving.{giving_begins, one_there, lent_there, room_there, given_next, all_given}
 use Rattle.mage_lending.proofs.stores.give_stores_back.Goals as goal

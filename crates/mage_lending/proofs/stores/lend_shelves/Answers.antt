@@ -1,4 +1,4 @@
-use Rattle.std.proofs.Common.{◌≡◌, ◌++◌, ◌∷◌, [], length, Vec, ap, ◌∙◌, arith}
+use Rattle.std.proofs.Common.{Vec, ap, ◌∙◌, arith}
 use Rattle.std.specs.Global.{Global}
 use Rattle.std.proofs.lemmas.Result.{err_from_is_err_and}
 use Rattle.mage_base.specs.Desk.{DeskTold}

@@ -1,4 +1,4 @@
-use Rattle.std.proofs.Common.{◌≡◌, length, take, ap, refl}
+use Rattle.std.proofs.Common.{length, take, ap, refl}
 use Rattle.mage_base.specs.Desk.{DeskTold}
 use Rattle.mage_lending.proofs.Giving.{begun_none, all_one, none_lent_so}
 use Rattle.mage_lending.proofs.stores.lend_stores.Goals as goal
