@@ -1,5 +1,6 @@
 -- What clap's clauses say of words that are pairs, and what the words ask for.
 use Rattle.std.proofs.Common.{◌≡◌, ◌∙◌, ◌<◌, ℕ, cond, true, false, refl, sym, ap, ap₂, subst, arith, inl, inr, List, [], ◌∷◌, map, drop, length, Option, Some, None, is_some, Err, ok_or, option_map, String}
+use mathlib.Core.Path.{fun_ext}
 use Rattle.std.specs.List.{All, slice_index_or}
 use Rattle.std.specs.String.{string_bytes}
 use Rattle.std.specs.declared.alloc.Global.{Global}
@@ -13,6 +14,7 @@ use Rattle.clap.specs.Values.{kind_of}
 use Rattle.clap.specs.Walk.{Text, first_of}
 use Rattle.clap.specs.declared.error.Error.{Error}
 use Rattle.clap.specs.declared.error.kind.ErrorKind.TheVariants as kind
+use Rattle.mage_instr.specs.declared.replaced.Limits.{Limits}
 use Rattle.mage_words.specs.declared.fault.WordsFault.{WordsFault}
 use Rattle.mage_words.specs.declared.fault.WordsFault.TheVariants as fault
 use Rattle.mage_words.specs.declared.option.OptionName.{OptionName}
@@ -21,7 +23,9 @@ use Rattle.mage_words.specs.Options.{OptionRule, rule_of}
 use Rattle.mage_words.specs.declared.command.CommandName.{CommandName}
 use Rattle.mage_words.specs.declared.command.CommandName.TheVariants as command
 use Rattle.mage_words.specs.Commands.{command_named, command_rule, rules_of}
-use Rattle.mage_words.specs.Words.{◌>>=◌, Pair, Request, asked_of, asked_of_pairs, bytes_of_words, command_in, limits_of, pairs_of, request_of, solo_of_values, stats_of_values, deal_of_values, plan_of_values, check_of_values, upgrade_of_values, takes, value_of}
+use Rattle.mage_words.specs.declared.driver.DriverName.{DriverName}
+use Rattle.mage_words.specs.declared.driver.DriverName.TheVariants as driver
+use Rattle.mage_words.specs.Words.{◌>>=◌, Driver, Pair, Request, Solo, SoloRequest, driver_named, asked_of, asked_of_pairs, bytes_of_words, command_in, limits_of, pairs_of, request_of, plain_of_values, garble_of_values, eval_of_values, driver_of_values, solo_of_values, stats_of_values, deal_of_values, plan_of_values, check_of_values, upgrade_of_values, gen_of_values, takes, value_of}
 use Rattle.mage_words.specs.Clap.{are_apart, clap_app}
 use Rattle.mage_words.specs.Answers.{Reads, value_in}
 use Rattle.mage_words.proofs.Faultless.{none}
@@ -79,13 +83,35 @@ pairs_asked (word ∷ words) name h = go (command_named word) (pairs_of words) h
     go named None h = cc
     go named (Some pairs) h = (pairs, omega arith, refl, ap (λ (known : Option CommandName). known >>= (λ name. asked_of_pairs name pairs)) h)
 
+-- what a driver is asked for rests on the values of its options, and of those of other drivers
+same_driver : (name : DriverName) (f g : OptionName → Option Text)
+    → f option.Garbler ≡ g option.Garbler → f option.Evaluator ≡ g option.Evaluator → f option.Seed ≡ g option.Seed
+    → f option.Stream ≡ g option.Stream → f option.Labels ≡ g option.Labels
+    → driver_of_values f name ≡ driver_of_values g name
+unfolding plain_of_values garble_of_values eval_of_values
+same_driver driver.Plain f g garbler evaluator seed stream labels = rw (garbler, evaluator, seed, stream, labels) refl
+same_driver driver.Garble f g garbler evaluator seed stream labels = rw (garbler, evaluator, seed, stream, labels) refl
+same_driver driver.Eval f g garbler evaluator seed stream labels = rw (garbler, evaluator, seed, stream, labels) refl
+
+-- what `solo` is asked for, with its driver given as a function of the driver's name
+abbrev solo_with : (source name : Option Text) → (DriverName → Option Driver) → Option Limits → Option SoloRequest
+solo_with source name driver limits =
+    source >>= (λ source. (name >>= driver_named) >>= (λ name. driver name >>= (λ driver. limits >>= (λ limits.
+    Some (record { source = source; driver = driver; limits = limits })))))
+
 -- what a command is asked for rests on the values of its options alone
 same_asked : (name : CommandName) (f g : OptionName → Option Text)
     → All (λ option. f option ≡ g option) (command_rule name).options → asked_of name f ≡ asked_of name g
-unfolding solo_of_values stats_of_values deal_of_values plan_of_values check_of_values upgrade_of_values limits_of
+unfolding solo_of_values stats_of_values deal_of_values plan_of_values check_of_values upgrade_of_values gen_of_values limits_of
 same_asked command.Solo f g same =
-    let at = λ (k : ℕ) (lt : k < 8). same k option.Source lt in
-    rw (at 0 (omega arith), at 1 (omega arith), at 2 (omega arith), at 3 (omega arith), at 4 (omega arith), at 5 (omega arith), at 6 (omega arith), at 7 (omega arith)) refl
+    let at = λ (k : ℕ) (lt : k < 11). same k option.Source lt in
+    let drivers : driver_of_values f ≡ driver_of_values g =
+    fun_ext (λ name. same_driver name f g (at 2 (omega arith)) (at 3 (omega arith)) (at 4 (omega arith)) (at 5 (omega arith)) (at 6 (omega arith))) in
+    let limits : limits_of f ≡ limits_of g =
+    rw (at 7 (omega arith), at 8 (omega arith), at 9 (omega arith), at 10 (omega arith)) refl in
+    ap (option_map Solo)
+    (ap₂ (λ source name. solo_with source name (driver_of_values f) (limits_of f)) (at 0 (omega arith)) (at 1 (omega arith))
+    ∙ ap₂ (λ driver limits. solo_with (g option.Source) (g option.Driver) driver limits) drivers limits)
 same_asked command.Stats f g same =
     let at = λ (k : ℕ) (lt : k < 5). same k option.Source lt in
     rw (at 0 (omega arith), at 1 (omega arith), at 2 (omega arith), at 3 (omega arith), at 4 (omega arith)) refl
@@ -101,6 +127,9 @@ same_asked command.Check f g same =
 same_asked command.Upgrade f g same =
     let at = λ (k : ℕ) (lt : k < 2). same k option.Source lt in
     rw (at 0 (omega arith), at 1 (omega arith)) refl
+same_asked command.Gen f g same =
+    let at = λ (k : ℕ) (lt : k < 9). same k option.Source lt in
+    rw (at 0 (omega arith), at 1 (omega arith), at 2 (omega arith), at 3 (omega arith), at 4 (omega arith), at 5 (omega arith), at 6 (omega arith), at 7 (omega arith), at 8 (omega arith)) refl
 
 -- what holds of each row of some options
 each_option : (P : OptionRule → Type 0) (options : List OptionName) → All P (map rule_of options) → All (λ option. P (rule_of option)) options

@@ -1,4 +1,4 @@
--- The limits that words ask for are in range.
+-- The limits that words ask for are in range, and the numbers of `gen`.
 use Rattle.std.proofs.Common.{◌≡◌, ◌∙◌, ◌≤◌, ◌<◌, ◌+◌, ◌*◌, ◌-◌, ◌^◌, ◌&&◌, ℕ, Bool, cond, true, false, suc, refl, sym, ap, subst, arith, List, [], ◌∷◌, Option, Some, None, Result, Ok, Err, option_map, nat_le, leb-true, IfOk}
 use Rattle.std.specs.Int.{is_power_of_two}
 use Rattle.std.specs.Int.RustNames.{count_ones}
@@ -16,8 +16,9 @@ use Rattle.mage_words.specs.declared.fault.WordsFault.{WordsFault}
 use Rattle.mage_words.specs.declared.option.OptionName.{OptionName}
 use Rattle.mage_words.specs.declared.option.OptionName.TheVariants as option
 use Rattle.mage_words.specs.Commands.{command_named, rules_of}
-use Rattle.mage_words.specs.Options.{shortest_page, longest_page, rule_of}
-use Rattle.mage_words.specs.Words.{◌>>=◌, LimitsAreInRange, Pair, Request, Solo, SoloRequest, Stats, StatsRequest, Deal, Plan, PlanRequest, Check, Upgrade, asked_of, asked_of_pairs, driver_of, if_power_of_two, if_within, is_number, limits_of, number, number_in, pairs_of, request_of, solo_of_values, stats_of_values, deal_of_values, plan_of_values, check_of_values, upgrade_of_values, takes, value_of}
+use Rattle.mage_words.specs.Options.{shortest_page, longest_page, most_items, most_rows, most_gen_workers, most_number, rule_of}
+use Rattle.mage_words.specs.declared.driver.DriverName.{DriverName}
+use Rattle.mage_words.specs.Words.{◌>>=◌, LimitsAreInRange, NumbersAreInRange, GenIsInRange, Driver, Pair, Request, Solo, SoloRequest, Stats, StatsRequest, Deal, Plan, PlanRequest, Check, Upgrade, Gen, GenRequest, asked_of, asked_of_pairs, driver_named, driver_of_values, if_power_of_two, if_within, is_number, limits_of, number, number_in, pairs_of, request_of, solo_of_values, stats_of_values, deal_of_values, plan_of_values, check_of_values, upgrade_of_values, gen_of_values, takes, value_of}
 use Rattle.mage_words.specs.Answers.{Reads}
 use Rattle.mage_words.proofs.Rows.{both}
 use Rattle.clap.specs.Walk.{Text}
@@ -122,7 +123,8 @@ module _ (value : OptionName → Option Text) where
   unfolding solo_of_values
   solo_limits solo is =
       let source = then_some (value option.Source) _ solo is in
-      let driver = then_some (value option.Driver >>= driver_of) _ solo source.2 in
+      let name = then_some (value option.Driver >>= driver_named) _ solo source.2 in
+      let driver = then_some (driver_of_values value name.0) _ solo name.2 in
       let limits = then_some (limits_of value) _ solo driver.2 in
       subst AreInRange (ap (λ o. (unwrap_or o solo).limits) limits.2) (limits_are limits.0 limits.1)
 
@@ -140,6 +142,43 @@ module _ (value : OptionName → Option Text) where
       let out = then_some (value option.Out) _ plan source.2 in
       let limits = then_some (limits_of value) _ plan out.2 in
       subst AreInRange (ap (λ o. (unwrap_or o plan).limits) limits.2) (limits_are limits.0 limits.1)
+
+  -- what holds of a generated source's numbers and limits
+  gen_ranges : (gen : GenRequest) → gen_of_values value ≡ Some gen → GenIsInRange gen × AreInRange gen.limits
+  unfolding gen_of_values
+  gen_ranges gen is =
+      let items = then_some (number value option.Items) _ gen is in
+      let rows = then_some (number value option.Rows) _ gen items.2 in
+      let workers = then_some (number value option.Workers) _ gen rows.2 in
+      let start = then_some (number value option.Number) _ gen workers.2 in
+      let out = then_some (value option.Out) _ gen start.2 in
+      let limits = then_some (limits_of value) _ gen out.2 in
+      let items_text = then_some (value option.Items) _ items.0 items.1 in
+      let rows_text = then_some (value option.Rows) _ rows.0 rows.1 in
+      let workers_text = then_some (value option.Workers) _ workers.0 workers.1 in
+      let start_text = then_some (value option.Number) _ start.0 start.1 in
+      let items_range = number_between 1 most_items items_text.0 items.0 items_text.2 in
+      let rows_range = number_between 1 most_rows rows_text.0 rows.0 rows_text.2 in
+      let workers_range = number_between 1 most_gen_workers workers_text.0 workers.0 workers_text.2 in
+      let start_range = number_between 0 most_number start_text.0 start.0 start_text.2 in
+      let whole : GenRequest = record {
+        items = items.0;
+        rows = rows.0;
+        workers = workers.0;
+        number = start.0;
+        out = out.0;
+        limits = limits.0;
+      } in
+      let ranges : GenIsInRange whole = record {
+        some_item = items_range.0;
+        items = items_range.1;
+        some_row = rows_range.0;
+        rows = rows_range.1;
+        some_worker = workers_range.0;
+        workers = workers_range.1;
+        number = start_range.1;
+      } in
+      subst (λ (g : GenRequest). GenIsInRange g × AreInRange g.limits) (ap (λ o. unwrap_or o gen) limits.2) (ranges, limits_are limits.0 limits.1)
 
   asked_limits : (name : CommandName) (request : Request) → asked_of name value ≡ Some request → LimitsAreInRange request
   asked_limits command.Solo request is =
@@ -160,25 +199,50 @@ module _ (value : OptionName → Option Text) where
   asked_limits command.Upgrade request is =
       let upgrade = map_some Upgrade (upgrade_of_values value) request is in
       subst (λ r. LimitsAreInRange r) upgrade.2 tt
+  asked_limits command.Gen request is =
+      let gen = map_some Gen (gen_of_values value) request is in
+      subst (λ r. LimitsAreInRange r) gen.2 (gen_ranges gen.0 gen.1).1
+
+  asked_numbers : (name : CommandName) (request : Request) → asked_of name value ≡ Some request → NumbersAreInRange request
+  asked_numbers command.Solo request is = subst (λ r. NumbersAreInRange r) (map_some Solo (solo_of_values value) request is).2 tt
+  asked_numbers command.Stats request is = subst (λ r. NumbersAreInRange r) (map_some Stats (stats_of_values value) request is).2 tt
+  asked_numbers command.Deal request is = subst (λ r. NumbersAreInRange r) (map_some Deal (deal_of_values value) request is).2 tt
+  asked_numbers command.Plan request is = subst (λ r. NumbersAreInRange r) (map_some Plan (plan_of_values value) request is).2 tt
+  asked_numbers command.Check request is = subst (λ r. NumbersAreInRange r) (map_some Check (check_of_values value) request is).2 tt
+  asked_numbers command.Upgrade request is = subst (λ r. NumbersAreInRange r) (map_some Upgrade (upgrade_of_values value) request is).2 tt
+  asked_numbers command.Gen request is =
+      let gen = map_some Gen (gen_of_values value) request is in
+      subst (λ r. NumbersAreInRange r) gen.2 (gen_ranges gen.0 gen.1).0
 
 -- ---- what words ask for
 
-pairs_limits : (name : CommandName) (pairs : List Pair) (request : Request) → asked_of_pairs name pairs ≡ Some request → LimitsAreInRange request
-pairs_limits name pairs request = go (takes (rules_of name) pairs)
-  where
-    go : (b : Bool) → cond b (asked_of name (λ option. value_of pairs (rule_of option))) None ≡ Some request → LimitsAreInRange request
-    go false is = cc
-    go true is = asked_limits (λ option. value_of pairs (rule_of option)) name request is
+-- what holds of whatever the values of a command's options ask for holds of what words ask for
+module _ (P : Request → Type 0)
+    (always : (value : OptionName → Option Text) (name : CommandName) (request : Request) → asked_of name value ≡ Some request → P request) where
+  of_pairs : (name : CommandName) (pairs : List Pair) (request : Request) → asked_of_pairs name pairs ≡ Some request → P request
+  of_pairs name pairs request = go (takes (rules_of name) pairs)
+    where
+      go : (b : Bool) → cond b (asked_of name (λ option. value_of pairs (rule_of option))) None ≡ Some request → P request
+      go false is = cc
+      go true is = always (λ option. value_of pairs (rule_of option)) name request is
 
-request_limits : (words : List Text) (request : Request) → request_of words ≡ Some request → LimitsAreInRange request
-unfolding request_of
-request_limits [] request is = cc
-request_limits (word ∷ words) request is =
-    let name = then_some (command_named word) _ request is in
-    let pairs = then_some (pairs_of words) _ request name.2 in
-    pairs_limits name.0 pairs.0 request pairs.2
+  of_words : (words : List Text) (request : Request) → request_of words ≡ Some request → P request
+  unfolding request_of
+  of_words [] request is = cc
+  of_words (word ∷ words) request is =
+      let name = then_some (command_named word) _ request is in
+      let pairs = then_some (pairs_of words) _ request name.2 in
+      of_pairs name.0 pairs.0 request pairs.2
+
+  of_read : {X : Type 0} (view : X → Request) (words : List Text) (r : Result X WordsFault) → Reads view (request_of words) r
+      → IfOk r (λ x. P (view x))
+  of_read view words (Ok x) is = of_words words (view x) is
+  of_read view words (Err fault) is = tt
 
 pub read_limits : {X : Type 0} (view : X → Request) (words : List Text) (r : Result X WordsFault) → Reads view (request_of words) r
     → IfOk r (λ x. LimitsAreInRange (view x))
-read_limits view words (Ok x) is = request_limits words (view x) is
-read_limits view words (Err fault) is = tt
+read_limits view words r is = of_read (λ request. LimitsAreInRange request) asked_limits view words r is
+
+pub read_numbers : {X : Type 0} (view : X → Request) (words : List Text) (r : Result X WordsFault) → Reads view (request_of words) r
+    → IfOk r (λ x. NumbersAreInRange (view x))
+read_numbers view words r is = of_read (λ request. NumbersAreInRange request) asked_numbers view words r is

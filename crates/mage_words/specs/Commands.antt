@@ -24,17 +24,20 @@ limit_options = option.Page ∷ option.Frames ∷ option.Buffer ∷ option.Ahead
 -- the table
 abbrev pub command_rule : CommandName → CommandRule
 command_rule command.Solo = command_row (codes "solo")
-    (option.Source ∷ option.Garbler ∷ option.Evaluator ∷ option.Driver ∷ limit_options)
+    (option.Source ∷ option.Driver ∷ option.Garbler ∷ option.Evaluator ∷ option.Seed ∷ option.Stream ∷ option.Labels ∷ limit_options)
 command_rule command.Stats = command_row (codes "stats") (option.Source ∷ limit_options)
 command_rule command.Deal = command_row (codes "deal")
     (option.Source ∷ option.Evaluator ∷ option.Seed ∷ option.Labels ∷ [])
 command_rule command.Plan = command_row (codes "plan") (option.Source ∷ option.Out ∷ limit_options)
 command_rule command.Check = command_row (codes "check") (option.Source ∷ option.Program ∷ [])
 command_rule command.Upgrade = command_row (codes "upgrade") (option.Program ∷ option.Out ∷ [])
+command_rule command.Gen = command_row (codes "gen")
+    (option.Items ∷ option.Rows ∷ option.Workers ∷ option.Number ∷ option.Out ∷ limit_options)
 
 -- all commands
 abbrev pub commands : List CommandName
-commands = command.Solo ∷ command.Stats ∷ command.Deal ∷ command.Plan ∷ command.Check ∷ command.Upgrade ∷ []
+commands =
+    command.Solo ∷ command.Stats ∷ command.Deal ∷ command.Plan ∷ command.Check ∷ command.Upgrade ∷ command.Gen ∷ []
 
 -- the command that a word names
 abbrev pub command_named : List ℕ → Option CommandName

@@ -1,5 +1,5 @@
 -- The words of a command: a command word, and then pairs of words, an option's name and its value.
-use Rattle.std.specs.Prelude.{ℕ, ◌==◌, ◌+◌, ◌*◌, ◌&&◌, ◌||◌, nat_le, nat_lt, Bool, true, false, not, List, [], ◌∷◌, length, drop, map, find, Option, Some, None, is_some, option_map, option_and_then, nat_eq, String, codes, if◌then◌else◌}
+use Rattle.std.specs.Prelude.{ℕ, ◌==◌, ◌≤◌, ◌+◌, ◌*◌, ◌&&◌, ◌||◌, nat_le, nat_lt, Bool, true, false, not, List, [], ◌∷◌, length, drop, map, find, Option, Some, None, is_some, option_map, option_and_then, nat_eq, String, codes, if◌then◌else◌}
 use Rattle.std.specs.List.{list_any, list_all, starts_with}
 use Rattle.std.specs.Option.{option_or}
 use Rattle.std.specs.Char.{is_ascii_digit}
@@ -14,11 +14,11 @@ use Rattle.mage_words.specs.declared.option.OptionName.{OptionName}
 use Rattle.mage_words.specs.declared.option.OptionName.TheVariants as option
 use Rattle.mage_words.specs.declared.option.Kind.{Kind}
 use Rattle.mage_words.specs.declared.option.Kind.TheVariants as kind
-use Rattle.mage_words.specs.declared.request.Driver.{Driver}
-use Rattle.mage_words.specs.declared.request.Driver.TheVariants as driver
+use Rattle.mage_words.specs.declared.driver.DriverName.{DriverName}
+use Rattle.mage_words.specs.declared.driver.DriverName.TheVariants as driver
 use Rattle.mage_words.specs.declared.command.CommandName.{CommandName}
 use Rattle.mage_words.specs.declared.command.CommandName.TheVariants as command
-use Rattle.mage_words.specs.Options.{OptionRule, Absence, Required, Default, rule_of}
+use Rattle.mage_words.specs.Options.{OptionRule, Absence, Required, Default, most_items, most_rows, most_gen_workers, most_number, rule_of}
 use Rattle.mage_words.specs.Commands.{command_named, rules_of}
 
 infixl 10 ◌>>=◌
@@ -119,17 +119,25 @@ number_for other text = None
 abbrev pub if_within : Limits → Option Limits
 if_within limits = if nat_le ((limits.frames + limits.buffer) * limits.page) most_wires then Some limits else None
 
--- the driver of a name
-abbrev pub driver_of : List ℕ → Option Driver
-driver_of name = if bytes_eq name (codes "plain") then Some driver.Plain else None
+-- the driver that a word names
+abbrev pub driver_named : List ℕ → Option DriverName
+driver_named word =
+    if bytes_eq word (codes "plain") then Some driver.Plain
+    else if bytes_eq word (codes "garble") then Some driver.Garble
+    else if bytes_eq word (codes "eval") then Some driver.Eval
+    else None
 
 -- ---- what commands are asked for
+
+-- what runs the circuits of `solo`, with the files of its own
+pub data Driver : Type 0 where
+  Plain : (garbler evaluator : Option (List ℕ)) → Driver
+  Garble : (garbler : Option (List ℕ)) → (seed stream : List ℕ) → Driver
+  Eval : (stream labels : List ℕ) → Driver
 
 -- what `solo` is asked for
 pub record SoloRequest : Type 0 where
   pub source : List ℕ
-  pub garbler : Option (List ℕ)
-  pub evaluator : Option (List ℕ)
   pub driver : Driver
   pub limits : Limits
 
@@ -161,6 +169,15 @@ pub record UpgradeRequest : Type 0 where
   pub program : List ℕ
   pub out : List ℕ
 
+-- what `gen` is asked for
+pub record GenRequest : Type 0 where
+  pub items : ℕ
+  pub rows : ℕ
+  pub workers : ℕ
+  pub number : ℕ
+  pub out : List ℕ
+  pub limits : Limits
+
 -- what a command is asked for
 pub data Request : Type 0 where
   Solo : SoloRequest → Request
@@ -169,6 +186,7 @@ pub data Request : Type 0 where
   Plan : PlanRequest → Request
   Check : CheckRequest → Request
   Upgrade : UpgradeRequest → Request
+  Gen : GenRequest → Request
 
 -- what a plan may use is in range, where a plan is to be made
 abbrev pub LimitsAreInRange : Request → Type 0
@@ -178,6 +196,22 @@ LimitsAreInRange (Deal deal) = Unit {0}
 LimitsAreInRange (Plan plan) = AreInRange plan.limits
 LimitsAreInRange (Check check) = Unit {0}
 LimitsAreInRange (Upgrade upgrade) = Unit {0}
+LimitsAreInRange (Gen gen) = AreInRange gen.limits
+
+-- the numbers of `gen` are in range
+pub record GenIsInRange (gen : GenRequest) : Type 0 where
+  pub some_item : 1 ≤ gen.items
+  pub items : gen.items ≤ most_items
+  pub some_row : 1 ≤ gen.rows
+  pub rows : gen.rows ≤ most_rows
+  pub some_worker : 1 ≤ gen.workers
+  pub workers : gen.workers ≤ most_gen_workers
+  pub number : gen.number ≤ most_number
+
+-- what is to be generated is in range, where something is
+abbrev pub NumbersAreInRange : Request → Type 0
+NumbersAreInRange (Gen gen) = GenIsInRange gen
+NumbersAreInRange other = Unit {0}
 
 -- Below, `value` has the value of each option.
 module _ (value : OptionName → Option (List ℕ)) where
@@ -194,19 +228,42 @@ module _ (value : OptionName → Option (List ℕ)) where
     ahead ← number option.Ahead
     if_within (record { page = page; frames = frames; buffer = buffer; ahead = ahead })
 
+  -- a driver, where none of these options is given, which are those of other drivers
+  abbrev pub unless_given : List OptionName → Driver → Option Driver
+  unless_given others driver = if list_any (λ name. is_some (value name)) others then None else Some driver
+
+  -- what the values ask each driver for
+  unfoldable pub plain_of_values : Option Driver
+  plain_of_values =
+      unless_given (option.Seed ∷ option.Stream ∷ option.Labels ∷ [])
+      (Plain (value option.Garbler) (value option.Evaluator))
+
+  unfoldable pub garble_of_values : Option Driver
+  garble_of_values = do
+    seed ← value option.Seed
+    stream ← value option.Stream
+    unless_given (option.Evaluator ∷ option.Labels ∷ []) (Garble (value option.Garbler) seed stream)
+
+  unfoldable pub eval_of_values : Option Driver
+  eval_of_values = do
+    stream ← value option.Stream
+    labels ← value option.Labels
+    unless_given (option.Garbler ∷ option.Evaluator ∷ option.Seed ∷ []) (Eval stream labels)
+
+  -- what the values ask the driver of this name for
+  abbrev pub driver_of_values : DriverName → Option Driver
+  driver_of_values driver.Plain = plain_of_values
+  driver_of_values driver.Garble = garble_of_values
+  driver_of_values driver.Eval = eval_of_values
+
   -- what the values ask `solo` for
   unfoldable pub solo_of_values : Option SoloRequest
   solo_of_values = do
     source ← value option.Source
-    driver ← value option.Driver >>= driver_of
+    name ← value option.Driver >>= driver_named
+    driver ← driver_of_values name
     limits ← limits_of
-    Some (record {
-      source = source;
-      garbler = value option.Garbler;
-      evaluator = value option.Evaluator;
-      driver = driver;
-      limits = limits;
-    })
+    Some (record { source = source; driver = driver; limits = limits })
 
   -- what the values ask `stats` for
   unfoldable pub stats_of_values : Option StatsRequest
@@ -250,6 +307,24 @@ module _ (value : OptionName → Option (List ℕ)) where
     out ← value option.Out
     Some (record { program = program; out = out })
 
+  -- what the values ask `gen` for
+  unfoldable pub gen_of_values : Option GenRequest
+  gen_of_values = do
+    items ← number option.Items
+    rows ← number option.Rows
+    workers ← number option.Workers
+    start ← number option.Number
+    out ← value option.Out
+    limits ← limits_of
+    Some (record {
+      items = items;
+      rows = rows;
+      workers = workers;
+      number = start;
+      out = out;
+      limits = limits;
+    })
+
 -- what the values of its options ask a command for
 abbrev pub asked_of : CommandName → (OptionName → Option (List ℕ)) → Option Request
 asked_of command.Solo value = option_map Solo (solo_of_values value)
@@ -258,6 +333,7 @@ asked_of command.Deal value = option_map Deal (deal_of_values value)
 asked_of command.Plan value = option_map Plan (plan_of_values value)
 asked_of command.Check value = option_map Check (check_of_values value)
 asked_of command.Upgrade value = option_map Upgrade (upgrade_of_values value)
+asked_of command.Gen value = option_map Gen (gen_of_values value)
 
 -- what pairs ask a command for
 abbrev pub asked_of_pairs : CommandName → List Pair → Option Request

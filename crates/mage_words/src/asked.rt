@@ -1,13 +1,15 @@
 // What the values of a command's options ask it for.
 ghost use Rattle.std.specs.Prelude.{◌≡◌, option_map};
 ghost use Rattle.clap.specs.Words.{found_of};
-ghost use Rattle.mage_words.specs.Words.{asked_of, solo_of_values, stats_of_values, deal_of_values, plan_of_values, check_of_values, upgrade_of_values};
-ghost use Rattle.mage_words.specs.Answers.{request_view, solo_view, stats_view, deal_view, plan_view, check_view, upgrade_view, value_in};
+ghost use Rattle.mage_words.specs.Words.{asked_of, solo_of_values, stats_of_values, deal_of_values, plan_of_values, check_of_values, upgrade_of_values, gen_of_values, number};
+ghost use Rattle.mage_words.specs.Answers.{request_view, solo_view, stats_view, deal_view, plan_view, check_view, upgrade_view, gen_view, value_in};
 
 use crate::command::CommandName;
+use crate::driver::driver_named;
+use crate::driving::driver_of;
 use crate::option::OptionName;
-use crate::request::{Check, Deal, Plan, Request, Solo, Stats, Upgrade};
-use crate::values::{driver_of, limits, value};
+use crate::request::{Check, Deal, Gen, Plan, Request, Solo, Stats, Upgrade};
+use crate::values::{limits, number, value};
 use clap::ArgMatches;
 
 #[tactic(auto, unfolding(crate::specs::Words::solo_of_values))]
@@ -15,14 +17,12 @@ fn solo_of<'a>(matches: &ArgMatches<'a>) -> Option<Solo<'a>>
     ensures { option_map solo_view result ≡ solo_of_values (value_in (found_of matches.now)) }
 {
     let source = value(matches, OptionName::Source)?;
-    let driver = driver_of(value(matches, OptionName::Driver)?)?;
-    let limits = limits(matches)?;
+    let name = driver_named(value(matches, OptionName::Driver)?)?;
+    let driver = driver_of(name, matches)?;
     Some(Solo {
         source,
-        garbler: value(matches, OptionName::Garbler),
-        evaluator: value(matches, OptionName::Evaluator),
         driver,
-        limits,
+        limits: limits(matches)?,
     })
 }
 
@@ -85,6 +85,27 @@ fn upgrade_of<'a>(matches: &ArgMatches<'a>) -> Option<Upgrade<'a>>
     })
 }
 
+// The workers of a generated source.
+fn workers(matches: &ArgMatches<'_>) -> Option<u16>
+    ensures { result ≡ number (value_in (found_of matches.now)) OptionName.Workers }
+{
+    u16::try_from(number(matches, OptionName::Workers)?).ok()
+}
+
+#[tactic(auto, unfolding(crate::specs::Words::gen_of_values))]
+fn gen_of<'a>(matches: &ArgMatches<'a>) -> Option<Gen<'a>>
+    ensures { option_map gen_view result ≡ gen_of_values (value_in (found_of matches.now)) }
+{
+    Some(Gen {
+        items: number(matches, OptionName::Items)?,
+        rows: number(matches, OptionName::Rows)?,
+        workers: workers(matches)?,
+        number: number(matches, OptionName::Number)?,
+        out: value(matches, OptionName::Out)?,
+        limits: limits(matches)?,
+    })
+}
+
 /// What the values of the command's options ask it for.
 pub fn asked_of<'a>(command: CommandName, matches: &ArgMatches<'a>) -> Option<Request<'a>>
     ensures { option_map request_view result ≡ asked_of command (value_in (found_of matches.now)) }
@@ -96,5 +117,6 @@ pub fn asked_of<'a>(command: CommandName, matches: &ArgMatches<'a>) -> Option<Re
         CommandName::Plan => Some(Request::Plan(plan_of(matches)?)),
         CommandName::Check => Some(Request::Check(check_of(matches)?)),
         CommandName::Upgrade => Some(Request::Upgrade(upgrade_of(matches)?)),
+        CommandName::Gen => Some(Request::Gen(gen_of(matches)?)),
     }
 }

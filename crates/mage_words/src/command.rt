@@ -13,6 +13,7 @@ pub enum CommandName {
     Plan,
     Check,
     Upgrade,
+    Gen,
 }
 
 /// One row of the table: the command's word, and the options that it takes.
@@ -22,20 +23,24 @@ pub struct CommandRule {
     pub options: &'static [OptionName],
 }
 
-const COMMANDS: [CommandName; 6] = [
+const COMMANDS: [CommandName; 7] = [
     CommandName::Solo,
     CommandName::Stats,
     CommandName::Deal,
     CommandName::Plan,
     CommandName::Check,
     CommandName::Upgrade,
+    CommandName::Gen,
 ];
 
-const SOLO: [OptionName; 8] = [
+const SOLO: [OptionName; 11] = [
     OptionName::Source,
+    OptionName::Driver,
     OptionName::Garbler,
     OptionName::Evaluator,
-    OptionName::Driver,
+    OptionName::Seed,
+    OptionName::Stream,
+    OptionName::Labels,
     OptionName::Page,
     OptionName::Frames,
     OptionName::Buffer,
@@ -70,6 +75,18 @@ const CHECK: [OptionName; 2] = [OptionName::Source, OptionName::Program];
 
 const UPGRADE: [OptionName; 2] = [OptionName::Program, OptionName::Out];
 
+const GEN: [OptionName; 9] = [
+    OptionName::Items,
+    OptionName::Rows,
+    OptionName::Workers,
+    OptionName::Number,
+    OptionName::Out,
+    OptionName::Page,
+    OptionName::Frames,
+    OptionName::Buffer,
+    OptionName::Ahead,
+];
+
 /// The row of a command. Its word names it, and no other command.
 pub fn command_rule(command: CommandName) -> CommandRule
     ensures row { command_view result ≡ command_rule command }
@@ -99,6 +116,10 @@ pub fn command_rule(command: CommandName) -> CommandRule
         CommandName::Upgrade => CommandRule {
             name: "upgrade",
             options: &UPGRADE,
+        },
+        CommandName::Gen => CommandRule {
+            name: "gen",
+            options: &GEN,
         },
     }
 }

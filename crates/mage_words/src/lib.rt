@@ -3,6 +3,10 @@
 
 mod asked;
 mod command;
+mod driver;
+#[cfg(test)]
+mod driver_tests;
+mod driving;
 mod fault;
 mod matches;
 mod number;
@@ -16,5 +20,5 @@ mod values;
 mod words;
 
 pub use fault::WordsFault;
-pub use request::{Check, Deal, Driver, Plan, Request, Solo, Stats, Upgrade};
+pub use request::{Check, Deal, Driver, Gen, Plan, Request, Solo, Stats, Upgrade};
 pub use words::read_words;

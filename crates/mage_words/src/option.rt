@@ -2,25 +2,30 @@
 #[derive(Clone, Copy, Debug, PartialEq, Eq)]
 pub enum OptionName {
     Source,
+    Driver,
     Garbler,
     Evaluator,
-    Driver,
+    Seed,
+    Stream,
+    Labels,
     Page,
     Frames,
     Buffer,
     Ahead,
-    Seed,
-    Labels,
     Program,
     Out,
+    Items,
+    Rows,
+    Workers,
+    Number,
 }
 
 /// What the value of an option has to be.
 #[derive(Clone, Copy, Debug, PartialEq, Eq)]
 pub enum Kind {
-    /// The name of a file.
+    /// The name of a file, or what the names of files begin with.
     File,
-    /// What runs the circuits: `plain`.
+    /// What runs the circuits: `plain`, `garble` or `eval`.
     Driver,
     /// A number in a range.
     Number { least: u32, most: u32 },
@@ -33,7 +38,7 @@ pub enum Kind {
 pub enum Absence {
     /// Nothing: it has to be given.
     Required,
-    /// Nothing is needed.
+    /// Nothing is needed, unless the command or its driver asks for it.
     Optional,
     /// This value.
     Default(&'static str),

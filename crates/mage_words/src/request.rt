@@ -1,11 +1,32 @@
 // What commands are asked for.
 use mage_instr::Limits;
 
-/// What runs the circuits.
-#[derive(Clone, Copy, Debug, PartialEq, Eq)]
-pub enum Driver {
-    /// Each wire is its bit.
-    Plain,
+/// What runs the circuits of `solo`, with the files of its own.
+#[derive(Clone, Copy)]
+pub enum Driver<'a> {
+    /// Each wire is its bit. An input text that has no file is empty.
+    Plain {
+        /// The file of the garbler's input text.
+        garbler: Option<&'a str>,
+        /// The file of the evaluator's input text.
+        evaluator: Option<&'a str>,
+    },
+    /// The garbler: each wire is its zero label.
+    Garble {
+        /// The file of the garbler's input text. Without one the text is empty.
+        garbler: Option<&'a str>,
+        /// The file of the seed.
+        seed: &'a str,
+        /// What the names of the stream files begin with, which are written.
+        stream: &'a str,
+    },
+    /// The evaluator: each wire is its active label.
+    Eval {
+        /// What the names of the stream files begin with, which are read.
+        stream: &'a str,
+        /// What the names of the label files begin with, which are read.
+        labels: &'a str,
+    },
 }
 
 /// What a command is asked for.
@@ -23,6 +44,8 @@ pub enum Request<'a> {
     Check(Check<'a>),
     /// To write a memory program of version 1 in version 2.
     Upgrade(Upgrade<'a>),
+    /// To write a source of a given size, its input texts and its memory program.
+    Gen(Gen<'a>),
 }
 
 /// What `solo` is asked for.
@@ -30,11 +53,7 @@ pub enum Request<'a> {
 pub struct Solo<'a> {
     /// The file of the source.
     pub source: &'a str,
-    /// The file of the garbler's input text. Without one the text is empty.
-    pub garbler: Option<&'a str>,
-    /// The file of the evaluator's input text. Without one the text is empty.
-    pub evaluator: Option<&'a str>,
-    pub driver: Driver,
+    pub driver: Driver<'a>,
     pub limits: Limits,
 }
 
@@ -85,4 +104,20 @@ pub struct Upgrade<'a> {
     pub program: &'a str,
     /// The file that the memory program of version 2 is written to.
     pub out: &'a str,
+}
+
+/// What `gen` is asked for.
+#[derive(Clone, Copy)]
+pub struct Gen<'a> {
+    /// How many items each worker has: 1 to 65,536.
+    pub items: u32,
+    /// How many rows: 1 to 1,024.
+    pub rows: u32,
+    /// How many workers: 1 to 16.
+    pub workers: u16,
+    /// The number that the input values are made of.
+    pub number: u32,
+    /// What the names of the files begin with.
+    pub out: &'a str,
+    pub limits: Limits,
 }

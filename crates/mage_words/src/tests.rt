@@ -6,7 +6,7 @@ use std::process::Abort;
 use std::test::Fail;
 
 // The words of a line, which single spaces part.
-fn words_of(alloc: Global, line: &str) -> Result<Vec<String>, AllocError> {
+pub fn words_of(alloc: Global, line: &str) -> Result<Vec<String>, AllocError> {
     let mut words = Vec::new(alloc);
     for word in line.split(' ') {
         words.push(String::from_str(alloc, word)?)?;
@@ -15,7 +15,7 @@ fn words_of(alloc: Global, line: &str) -> Result<Vec<String>, AllocError> {
 }
 
 // What the words ask `solo` for, where they do.
-fn solo_in(alloc: Global, words: &[String]) -> Option<Solo<'_>> {
+pub fn solo_in(alloc: Global, words: &[String]) -> Option<Solo<'_>> {
     match read_words(alloc, words) {
         Ok(Request::Solo(solo)) => Some(solo),
         _ => None,
@@ -62,7 +62,22 @@ fn upgrade_in(alloc: Global, words: &[String]) -> Option<Upgrade<'_>> {
     }
 }
 
-fn refused(rt: &impl Abort, alloc: Global, lines: &[&str]) -> Result<(), Fail> {
+// The input texts of a driver that runs in plain.
+#[derive(Clone, Copy)]
+struct Texts<'a> {
+    garbler: Option<&'a str>,
+    evaluator: Option<&'a str>,
+}
+
+fn plain_in<'a>(driver: Driver<'a>) -> Option<Texts<'a>> {
+    match driver {
+        Driver::Plain { garbler, evaluator } => Some(Texts { garbler, evaluator }),
+        _ => None,
+    }
+}
+
+// Each of the lines is refused.
+pub fn refused(rt: &impl Abort, alloc: Global, lines: &[&str]) -> Result<(), Fail> {
     for line in lines {
         let words = words_of(alloc, line)?;
         assert!(rt;
@@ -73,7 +88,7 @@ fn refused(rt: &impl Abort, alloc: Global, lines: &[&str]) -> Result<(), Fail> {
     Ok(())
 }
 
-fn limits(page: u32, frames: u32, buffer: u16, ahead: u32) -> Limits {
+pub fn limits(page: u32, frames: u32, buffer: u16, ahead: u32) -> Limits {
     Limits {
         page,
         frames,
@@ -88,11 +103,11 @@ fn limited(rt: &impl Abort, alloc: Global, cases: &[(&str, Limits)]) -> Result<(
         let words = words_of(alloc, line)?;
         let solo = solo_in(alloc, &words).ok_or("refused")?;
         assert_eq!(rt; solo.source, "s", "{line}");
+        let texts = plain_in(solo.driver).ok_or("another driver")?;
         assert!(rt;
-            solo.garbler.is_none() && solo.evaluator.is_none(),
+            texts.garbler.is_none() && texts.evaluator.is_none(),
             "{line}"
         );
-        assert!(rt; solo.driver == Driver::Plain, "{line}");
         assert_eq!(rt; solo.limits, *limits, "{line}");
     }
     Ok(())
@@ -173,11 +188,11 @@ fn options_that_it_does_not_take(rt: HostRuntime) -> Result<(), Fail> {
             "solo --source s --stream p",
             "solo --source s --labels p",
             "solo --source s --threads 1",
+            "solo --source s --items 2",
+            "solo --source s --number 2",
             "solo --source s --help x",
             "solo --help x",
             "solo --version x",
-            "solo --source s --driver garble",
-            "solo --source s --driver eval",
             "solo --source s --driver Plain",
             "solo --source s --driver plain --driver plain",
         ],
@@ -422,7 +437,7 @@ fn files_of_memory_programs(rt: HostRuntime) -> Result<(), Fail> {
     Ok(())
 }
 
-// All options of `solo`, as words.
+// All options that `solo` takes with the driver `plain`, as words.
 const ALL: [&str; 16] = [
     "--source",
     "s=1",
@@ -465,7 +480,8 @@ fn options_of_solo_in_any_order(rt: HostRuntime) -> Result<(), Fail> {
             let words = turned(rt.alloc(), first, backwards)?;
             let solo = solo_in(rt.alloc(), &words).ok_or("refused")?;
             assert_eq!(rt; solo.source, "s=1");
-            assert!(rt; solo.garbler == Some("g") && solo.evaluator == Some("e-"));
+            let texts = plain_in(solo.driver).ok_or("another driver")?;
+            assert!(rt; texts.garbler == Some("g") && texts.evaluator == Some("e-"));
             assert!(rt; solo.limits == limits(128, 3, 2, 5));
         }
     }

@@ -1,12 +1,11 @@
 // What the values of options are.
 ghost use Rattle.std.specs.Prelude.{◌≡◌, option_map};
 ghost use Rattle.clap.specs.Words.{found_of};
-ghost use Rattle.mage_words.specs.Words.{number, limits_of, driver_of, if_within};
+ghost use Rattle.mage_words.specs.Words.{number, limits_of, if_within};
 ghost use Rattle.mage_words.specs.Answers.{value_in};
 
 use crate::number::number_for;
 use crate::option::OptionName;
-use crate::request::Driver;
 use crate::table::rule_of;
 use clap::ArgMatches;
 use mage_instr::Limits;
@@ -21,8 +20,8 @@ pub fn value<'a>(matches: &ArgMatches<'a>, option: OptionName) -> Option<&'a str
     matches.get_str(rule_of(option).name)
 }
 
-// The number of an option.
-fn number(matches: &ArgMatches<'_>, option: OptionName) -> Option<u32>
+/// The number of an option, where it is in its range.
+pub fn number(matches: &ArgMatches<'_>, option: OptionName) -> Option<u32>
     ensures { result ≡ number (value_in (found_of matches.now)) option }
 {
     number_for(rule_of(option).kind, value(matches, option)?)
@@ -37,16 +36,6 @@ fn within(limits: Limits) -> Option<Limits>
         Some(limits)
     } else {
         None
-    }
-}
-
-/// The driver of this name, where it is one that is built.
-pub fn driver_of(name: &str) -> Option<Driver>
-    ensures { result ≡ driver_of name.now }
-{
-    match name {
-        "plain" => Some(Driver::Plain),
-        _ => None,
     }
 }
 

@@ -1,6 +1,6 @@
 // What words ask for.
 ghost use Rattle.std.specs.Prelude.{◌≡◌, IfOk};
-ghost use Rattle.mage_words.specs.Words.{LimitsAreInRange, bytes_of_words, command_in, request_of};
+ghost use Rattle.mage_words.specs.Words.{LimitsAreInRange, NumbersAreInRange, bytes_of_words, command_in, request_of};
 ghost use Rattle.mage_words.specs.Answers.{request_view, Reads};
 
 use crate::WordsFault;
@@ -41,11 +41,13 @@ fn asked<'a>(alloc: Global, words: &'a [String]) -> Result<Request<'a>, WordsFau
 ///
 /// An option's word is two dashes and its name. A value isn't empty and doesn't begin with a dash. A number is 1 to 20
 /// decimal digits, leading zeros allowed. The commands and their options are those of the table of commands; ranges
-/// and defaults are those of the table of options; frames and buffer hold at most 4,194,304 wires together. `Words`
+/// and defaults are those of the table of options; frames and buffer hold at most 4,194,304 wires together. `solo` takes the
+/// options of its driver alone, and has those that the driver needs. `Words`
 /// comes exactly where the words aren't so, unless `Memory` comes first, of which no clause says when it comes.
 pub fn read_words(alloc: Global, words: &[String]) -> Result<Request<'_>, WordsFault>
     ensures asked { Reads request_view (request_of (bytes_of_words words.now)) result }
     ensures in_range { IfOk result (λ request. LimitsAreInRange (request_view request)) }
+    ensures numbers { IfOk result (λ request. NumbersAreInRange (request_view request)) }
 {
     asked(alloc, words)
 }
