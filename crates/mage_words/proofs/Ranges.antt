@@ -17,8 +17,7 @@ use Rattle.mage_words.specs.declared.option.OptionName.{OptionName}
 use Rattle.mage_words.specs.declared.option.OptionName.TheVariants as option
 use Rattle.mage_words.specs.Commands.{command_named, rules_of}
 use Rattle.mage_words.specs.Options.{shortest_page, longest_page, most_items, most_rows, most_gen_workers, most_number, rule_of}
-use Rattle.mage_words.specs.declared.driver.DriverName.{DriverName}
-use Rattle.mage_words.specs.Words.{◌>>=◌, LimitsAreInRange, NumbersAreInRange, GenIsInRange, Driver, Pair, Request, Solo, SoloRequest, Stats, StatsRequest, Deal, Plan, PlanRequest, Check, Upgrade, Gen, GenRequest, asked_of, asked_of_pairs, driver_named, driver_of_values, if_power_of_two, if_within, is_number, limits_of, number, number_in, pairs_of, request_of, solo_of_values, stats_of_values, deal_of_values, plan_of_values, check_of_values, upgrade_of_values, gen_of_values, takes, value_of}
+use Rattle.mage_words.specs.Words.{◌>>=◌, LimitsAreInRange, NumbersAreInRange, GenIsInRange, Pair, Request, Solo, SoloRequest, Stats, StatsRequest, Deal, Plan, PlanRequest, Check, Upgrade, Gen, GenRequest, asked_of, asked_of_pairs, driver_named, driver_of_values, if_power_of_two, if_within, is_number, limits_of, number, number_in, pairs_of, request_of, solo_of_values, stats_of_values, deal_of_values, plan_of_values, check_of_values, upgrade_of_values, gen_of_values, takes, value_of}
 use Rattle.mage_words.specs.Answers.{Reads}
 use Rattle.mage_words.proofs.Rows.{both}
 use Rattle.clap.specs.Walk.{Text}
