@@ -89,7 +89,7 @@ all_can_be limits worker (instrs ∷ workers) parts sound have h =
     ((one.0, others.0), ap₂ (λ (part : Homed) (parts : List Homed). part ∷ parts) one.1 others.1 ∙ same_Ok (first.0 ∷ rest.0) parts rest.2)
 
 -- the memory program that is given is the one of the passes
-is_passed : (limits : Limits) (workers : List (List Instr)) (plan : MemProgram) → All IsSound workers → All HaveArguments workers → memory_program_of limits workers ≡ Ok plan
+pub is_passed : (limits : Limits) (workers : List (List Instr)) (plan : MemProgram) → All IsSound workers → All HaveArguments workers → memory_program_of limits workers ≡ Ok plan
     → AllCanBePlanned limits workers × (program_of limits (map (passed limits) workers) ≡ plan)
 unfolding memory_program_of
 is_passed limits workers plan sound have h =
