@@ -17,7 +17,7 @@ mod Whole
 mod Grown
 mod Answered
 mod Sufficing
-mod Issuing
+pub mod Issuing
 mod Deciding
 mod Jointly
 mod Either

@@ -1,8 +1,9 @@
 -- A refusal whose line is warned is what the call answers.
-use Rattle.std.proofs.Common.{◌≡◌, ◌≢◌, ◌≤◌, List, length, Bool, IsTrue, Option, Some, None, Result, Err, refl, sym, ◌∙◌, inl, inr}
+use Rattle.std.proofs.Common.{◌≡◌, ◌≢◌, ◌≤◌, ℕ, ap, subst, [], List, length, Bool, IsTrue, Option, Some, None, Result, Err, refl, sym, ◌∙◌, inl, inr, arith}
 use Rattle.std.specs.Option.{IfSome}
 use Rattle.std.proofs.lemmas.Option.{IfSome_then}
-use Rattle.mage_base.specs.Desk.{DeskTold, Files}
+use Rattle.mage_base.specs.Desk.{DeskTold, Files, Returned}
+use Rattle.mage_base.specs.Faults.{Rose}
 use Rattle.mage_planner.specs.declared.refusal.Refusal.{Refusal}
 use Rattle.mage_planner.specs.declared.refusal.Refusal.TheVariants as refusal
 use Rattle.mage_planner.specs.declared.status.Status.{Status}
@@ -11,7 +12,8 @@ use Rattle.mage_planner.specs.Lines.{status_of, line_of}
 use Rattle.mage_planner.specs.Outcome.{Done, NewFile}
 use Rattle.mage_planner.specs.Steps.{IsNotDesk, IsNoDeskFault, RefusalCounted}
 use Rattle.mage_planner.specs.Warned.{WarnsLine, IsOrMemory}
-use Rattle.mage_planner.specs.Answer.{Answers, AnswersRefusal, Works, ComesFrom, Leaves, Stops, OthersStay, HasRoom}
+use Rattle.mage_planner.specs.Answer.{Answers, AnswersRefusal, Works, ComesFrom, Leaves, Stops, OthersStay, HasRoom, TellsStores, StoresAreSound, IsComplete, files_of, refusal_of}
+use Rattle.mage_planner.proofs.PerformLemmas.{back_faults, none_back}
 
 -- the status of a refusal is none of Ok
 answers : (steady : Bool) (outcome : Result Done Refusal) (before after : DeskTold) (why : Refusal)
@@ -28,6 +30,8 @@ answers steady outcome before after (refusal.InputTooLong party) h = (refusal.In
 answers steady outcome before after refusal.InputSeed h = (refusal.InputSeed, h)
 answers steady outcome before after (refusal.MemoryProgram fault) h = (refusal.MemoryProgram fault, h)
 answers steady outcome before after (refusal.CheckNo worker directive) h = (refusal.CheckNo worker directive, h)
+answers steady outcome before after (refusal.Store worker) h = (refusal.Store worker, h)
+answers steady outcome before after (refusal.Damaged worker damage) h = (refusal.Damaged worker damage, h)
 answers steady outcome before after refusal.Desk h = (refusal.Desk, h)
 answers steady outcome before after refusal.Memory h = (refusal.Memory, h)
 
@@ -42,14 +46,38 @@ stops : (outcome : Result Done Refusal) (why : Refusal) (before after : DeskTold
     → Leaves outcome why before after → Stops outcome before after
 stops outcome refusal.Desk before after other leaves = absurd (other refl)
 stops outcome refusal.Memory before after other leaves = leaves
-stops outcome why before after other leaves =
-    rw leaves (record { files = others_stay _ before.files; rest = refl })
+stops outcome (refusal.Store worker) before after other breaks = record {
+  shelves = breaks.shelves;
+  between = after;
+  returns = breaks.returns;
+  ceases = record { files = others_stay (files_of outcome) after.files; rest = refl };
+}
+stops outcome (refusal.Damaged worker damage) before after other damages = record {
+  shelves = damages.shelves;
+  between = after;
+  returns = damages.returns;
+  ceases = record { files = others_stay (files_of outcome) after.files; rest = refl };
+}
+stops outcome why before after other leaves = rw leaves (record {
+  shelves = [];
+  between = before;
+  returns = record { few = omega arith; given = none_back before };
+  ceases = record { files = others_stay (files_of outcome) before.files; rest = refl };
+})
 
 -- what a refusal leaves other than the desk's fault leaves the count of faults
 leaves_count : (why : Refusal) (before after : DeskTold) → (why ≡ refusal.Desk → ⊥)
     → RefusalCounted before.faults after.faults why → after.faults ≡ before.faults
 leaves_count refusal.Desk before after other counted = absurd (other refl)
 leaves_count why before after other counted = counted
+
+store_status : (why : Refusal) → IsNotDesk why → status_of why ≡ status.Store → ⊥
+store_status (refusal.Store worker) not e = not
+store_status why not e = cc
+
+damage_status : (why : Refusal) → IsNotDesk why → status_of why ≡ status.Damaged → ⊥
+damage_status (refusal.Damaged worker damage) not e = not
+damage_status why not e = cc
 
 not_desk : (why : Refusal) → IsNotDesk why → why ≡ refusal.Desk → ⊥
 not_desk refusal.Desk not same = not
@@ -64,6 +92,8 @@ own_fits : (steady : Bool) (outcome : Result Done Refusal) (desk : DeskTold) (ow
     → ComesFrom steady outcome own → IsNotDesk own → HasRoom desk outcome
     → length (line_of refusal.Memory) ≤ desk.warn_room → length (line_of own) ≤ desk.warn_room
 own_fits steady outcome desk refusal.Desk comes not has memory = absurd not
+own_fits steady outcome desk (refusal.Store worker) comes not has memory = absurd not
+own_fits steady outcome desk (refusal.Damaged worker damage) comes not has memory = absurd not
 own_fits steady outcome desk refusal.Memory comes not has memory = memory
 own_fits steady outcome desk own comes not has memory = rw comes at has
 
@@ -115,27 +145,68 @@ module _ (steady : Bool) (own warned : Refusal) (answer : Status) (is : answer �
         rw same (own_fits steady outcome before own comes not has memory)
     fits (inr memory_is) outcome comes not has memory = rw memory_is.0 memory
 
-    -- the line's refusal isn't the desk's fault
-    warned_not_desk : IsOrMemory own warned → IsNotDesk own → warned ≡ refusal.Desk → ⊥
-    warned_not_desk (inl e) not desk = not_desk own not (sym e ∙ desk)
-    warned_not_desk (inr e) not desk = cc
+    -- the line's refusal isn't a fault of the desk or of its stores
+    warned_not_desk : IsOrMemory own warned → IsNotDesk own → IsNotDesk warned
+    warned_not_desk (inl e) not = rw e not
+    warned_not_desk (inr e) not = rw e.0 tt
 
-    -- a steady desk with the files and the room doesn't fail
+    -- a steady desk with the files and the room doesn't fail, and nor do its stores
     pub steady_files : (files : Option Files) (outcome : Files → Result Done Refusal)
         → IsTrue before.steady → RefusalCounted before.faults between.faults own
         → between.steady ≡ before.steady
         → between.warn_room ≡ before.warn_room
+        → (IsNotDesk own → StoresAreSound before between)
         → IfSome files (λ files.
-        IsNoDeskFault (outcome files) → HasRoom before (outcome files) → IsNotDesk own)
+        IsNoDeskFault (outcome files) → HasRoom before (outcome files) → TellsStores before (outcome files) → IsNotDesk own)
         → IfSome files (λ files.
         Works {T = Unit {0}} steady (outcome files) (Err own) before between)
         → IfSome files (λ files. IsNoDeskFault (outcome files) → HasRoom before (outcome files)
+        → TellsStores before (outcome files)
         → length (line_of refusal.Memory) ≤ before.warn_room
-        → (after.faults ≡ before.faults) × (answer ≢ status.Desk))
-    steady_files None outcome holds counted stays room is_not works = tt
-    steady_files (Some files) outcome holds counted stays room is_not works = λ found has memory.
-        let not = is_not found has in (
+        → (after.faults ≡ before.faults) × StoresAreSound before after
+        × (answer ≢ status.Desk) × (answer ≢ status.Store) × (answer ≢ status.Damaged))
+    steady_files None outcome holds counted stays room sound is_not works = tt
+    steady_files (Some files) outcome holds counted stays room sound is_not works = λ found has tells memory.
+        let not = is_not found has tells in
+        let not_warned = warned_not_desk same not in
+        let returned : after.returned ≡ between.returned = ap (λ (desk : DeskTold). desk.returned) warns.rest in (
           (warns.steady (rw stays holds) (rw room (fits same (outcome files) works.0 not has memory))).0
               ∙ leaves_count own before between (not_desk own not) counted,
-          λ desk. warned_not_desk same not (desk_status warned (sym is ∙ desk)),
+          λ worker. subst (λ (r : ℕ → Returned). (r worker).faults ≤ (before.returned worker).faults) (sym returned) (sound not worker),
+          λ desk. not_desk warned not_warned (desk_status warned (sym is ∙ desk)),
+          λ store. store_status warned not_warned (sym is ∙ store),
+          λ damaged. damage_status warned not_warned (sym is ∙ damaged),
         )
+
+    -- where nothing is refused and no count of faults rose, only want of memory is left, or damage that isn't told
+    complete : (outcome : Result Done Refusal) → Works {T = Unit {0}} steady outcome (Err own) before between
+        → refusal_of outcome ≡ None
+        → (Rose before.faults after.faults → ⊥)
+        → ((worker : ℕ) → Rose (before.returned worker).faults (after.returned worker).faults → ⊥)
+        → IsComplete before.stores_tell_pages answer
+    complete outcome works none calm sound = rw is (by_line same) where
+      by_line : IsOrMemory own warned → IsComplete before.stores_tell_pages (status_of warned)
+      by_line (inr memory) = rw memory.0 tt
+      by_line (inl e) = rw e (by_own own works none calm) where
+        by_own : (why : Refusal) → Works {T = Unit {0}} steady outcome (Err why) before between → refusal_of outcome ≡ None
+            → (Rose before.faults after.faults → ⊥) → IsComplete before.stores_tell_pages (status_of why)
+        by_own refusal.Desk works none calm =
+            let faults = back_faults works.1.shelves before works.1.between works.1.returns.given in
+            let rose : Rose before.faults between.faults = rw faults at works.1.breaks.rose in
+            let rises = warns.rises in
+            absurd (calm (omega (arith, rose, rises)))
+        by_own refusal.Memory works none calm = tt
+        by_own (refusal.Store worker) works none calm =
+            let returned : after.returned ≡ between.returned = ap (λ (desk : DeskTold). desk.returned) warns.rest in
+            absurd (sound worker (subst (λ (r : ℕ → Returned). Rose (before.returned worker).faults (r worker).faults) (sym returned) works.1.rose))
+        by_own (refusal.Damaged worker damage) works none calm = works.1.damaged.untold
+        by_own why works none calm = let e = works.0 in absurd (cc)
+
+    pub complete_files : (files : Option Files) (outcome : Files → Result Done Refusal)
+        → IfSome files (λ files. Works {T = Unit {0}} steady (outcome files) (Err own) before between)
+        → IfSome files (λ files. refusal_of (outcome files) ≡ None
+        → (Rose before.faults after.faults → ⊥)
+        → ((worker : ℕ) → Rose (before.returned worker).faults (after.returned worker).faults → ⊥)
+        → IsComplete before.stores_tell_pages answer)
+    complete_files None outcome works = tt
+    complete_files (Some files) outcome works = complete (outcome files) works

@@ -6,3 +6,6 @@ pub mod WritingLemmas
 mod PerformLemmas
 mod UpgradeLemmas
 mod CarriedLemmas
+mod SoloLemmas
+mod RunLemmas
+mod RanLemmas

@@ -1,16 +1,20 @@
 -- What is done of what a command comes to.
-use Rattle.std.proofs.Common.{◌≡◌, ◌≤◌, ℕ, List, [], length, Bool, Option, Some, None, Result, Ok, Err, refl, sym, ap, ap₂, subst, ◌∙◌, ◌∷◌, ◌++◌, take, IsTrue, arith}
+use Rattle.std.proofs.Common.{◌≡◌, ◌≢◌, ◌≤◌, inl, inr, ℕ, List, [], length, Bool, Option, Some, None, Result, Ok, Err, refl, sym, ap, ap₂, subst, ◌∙◌, ◌∷◌, ◌++◌, take, IsTrue, arith}
 use Rattle.std.proofs.Math.Path.{fun_ext}
 use Rattle.std.specs.Option.{IfSome}
-use Rattle.mage_base.specs.Desk.{DeskTold, Files}
+use Rattle.mage_base.specs.Desk.{DeskTold, Files, Returned, StoreId}
+use Rattle.mage_base.specs.Store.{StoreTold}
+use Rattle.mage_source_runs.specs.Moves.{Moves}
 use Rattle.mage_planner.specs.declared.refusal.Refusal.{Refusal}
 use Rattle.mage_planner.specs.declared.refusal.Refusal.TheVariants as refusal
-use Rattle.mage_planner.specs.Outcome.{Done, NewFile, says}
-use Rattle.mage_planner.specs.Steps.{IsNoDeskFault, StepCounted}
-use Rattle.mage_planner.specs.Answer.{Works, HasRoom, OthersStay, with_files}
+use Rattle.mage_planner.specs.Outcome.{Done, NewFile}
+use Rattle.mage_planner.specs.Steps.{IsNoDeskFault, StepCounted, RefusalCounted, Refuses}
+use Rattle.mage_planner.specs.Stores.{GivesBack, HaveMoved}
+use Rattle.mage_planner.specs.Answer.{Works, HasRoom, TellsStores, OthersStay, files_of, text_of, with_files}
 use Rattle.mage_planner.specs.Warned.{Grows}
-use Rattle.mage_planner.specs.Writing.{Performs, Writes}
-use Rattle.mage_planner.proofs.WritingLemmas.{one_stays, grows_front}
+use Rattle.mage_planner.specs.Writing.{Finished, Performs, Writes}
+use Rattle.mage_planner.proofs.WritingLemmas.{one_stays, none_stays, grows_front}
+use Rattle.mage_planner.proofs.WordsLemmas.{IsOfStore}
 
 -- where nothing is written all files stay
 all_stay : (before after : Option Files) → OthersStay [] before after → after ≡ before
@@ -19,34 +23,129 @@ all_stay (Some old) None stay = absurd stay
 all_stay (Some old) (Some new) stay =
     ap (λ (files : Files). Some files) (fun_ext (λ name. stay name (λ k d less. absurd (omega (arith, less)))))
 
+-- ---- frames
+
+-- what a command may change of what the desk tells, before its line is warned
+abbrev pub Frame : (before after : DeskTold) → Type 0
+Frame before after = after ≡ record before {
+  files = after.files;
+  said = after.said;
+  faults = after.faults;
+  room = after.room;
+  lent = after.lent;
+  returned = after.returned;
+}
+
+-- so it is where all else is equated
+framed : (before after : DeskTold) (files : Option Files) (said : Option (List ℕ)) (faults room : ℕ) (lent : List StoreId) (returned : ℕ → Returned)
+    → after ≡ record before { files = files; said = said; faults = faults; room = room; lent = lent; returned = returned } → Frame before after
+framed before after files said faults room lent returned is = subst (λ (desk : DeskTold). Frame before desk) (sym is) refl
+
+joined_frames : (before between after : DeskTold) → Frame before between → Frame between after → Frame before after
+joined_frames before between after first second =
+    second ∙ ap (λ (desk : DeskTold). record desk { files = after.files; said = after.said; faults = after.faults; room = after.room; lent = after.lent; returned = after.returned }) first
+
+-- ---- stores that are back
+
+module _ (shelves : List (List StoreTold)) (before after : DeskTold) (given : GivesBack shelves before after) where
+  pub back_frame : Frame before after
+  back_frame = framed before after before.files before.said before.faults before.room after.lent _ given.back.rest
+
+  pub back_faults : after.faults ≡ before.faults
+  back_faults = ap (λ (desk : DeskTold). desk.faults) given.back.rest
+
+  pub back_files : after.files ≡ before.files
+  back_files = ap (λ (desk : DeskTold). desk.files) given.back.rest
+
+-- no store was asked for
+pub none_back : (before : DeskTold) → GivesBack [] before before
+none_back before = record { own = tt; back = record { lent = record { often = λ id. refl; same = λ none. refl }; rest = refl } }
+
+-- where no store was asked for, nothing is given back
+back_none : (shelves : List (List StoreTold)) (before after : DeskTold) → length shelves ≡ 0 → GivesBack shelves before after
+    → (after.returned ≡ before.returned) × (after.lent ≡ before.lent)
+back_none [] before after none given = (
+  ap (λ (desk : DeskTold). desk.returned) given.back.rest,
+  given.back.lent.same (λ worker less. absurd (omega (arith, less))),
+)
+back_none (shelf ∷ shelves) before after none given = absurd (omega (arith, none))
+
+pub moved_count : (moves : List Moves) (shelves : List (List StoreTold)) → HaveMoved moves shelves → length shelves ≡ length moves
+moved_count [] [] moved = refl
+moved_count [] (shelf ∷ shelves) moved = absurd moved
+moved_count (own ∷ moves) [] moved = absurd moved
+moved_count (own ∷ moves) ([] ∷ shelves) moved = absurd moved
+moved_count (own ∷ moves) ((store ∷ []) ∷ shelves) moved = let rest = moved_count moves shelves moved.1 in omega (arith, rest)
+moved_count (own ∷ moves) ((store ∷ next ∷ others) ∷ shelves) moved = absurd moved
+
+-- ---- what is done, or stopped
+
 module _ (done : Done) (before after : DeskTold) where
   -- the count of faults
   pub counts : (r : Result (Unit {0}) Refusal) → Performs done r before after → StepCounted before.faults after.faults r
-  counts (Ok x) does = ap (λ (desk : DeskTold). desk.faults) does.rest
-  counts (Err refusal.Desk) fails = (fails.rises, fails.rose)
-  counts (Err refusal.Memory) stops = ap (λ (desk : DeskTold). desk.faults) stops.rest
+  counts (Ok x) does = ap (λ (desk : DeskTold). desk.faults) does.finishes.rest ∙ back_faults does.shelves before does.between does.given
+  counts (Err refusal.Desk) fails =
+      let same = back_faults fails.shelves before fails.between fails.returns.given in (rw same at fails.breaks.rises, rw same at fails.breaks.rose)
+  counts (Err refusal.Memory) stops = ap (λ (desk : DeskTold). desk.faults) stops.ceases.rest ∙ back_faults stops.shelves before stops.between stops.returns.given
+  counts (Err (refusal.Store worker)) breaks = back_faults breaks.1.shelves before after breaks.1.returns.given
+  counts (Err (refusal.Damaged worker damage)) damages = back_faults damages.1.shelves before after damages.1.returns.given
   counts (Err other) none = absurd none
 
-  -- what may change
-  abbrev Changes : Type 0
-  Changes = after ≡ record before { files = after.files; said = after.said; faults = after.faults; room = after.room }
-
-  pub changes : (r : Result (Unit {0}) Refusal) → Performs done r before after → Changes
+  pub changes : (r : Result (Unit {0}) Refusal) → Performs done r before after → Frame before after
   changes (Ok x) does =
-      does.rest ∙ ap₂ (λ (files : Option Files) (faults : ℕ). record before { files = files; said = after.said; faults = faults; room = after.room })
-      (sym (ap (λ (desk : DeskTold). desk.files) does.rest)) (sym (ap (λ (desk : DeskTold). desk.faults) does.rest))
-  changes (Err refusal.Desk) fails = fails.rest
-  changes (Err refusal.Memory) stops = rw stops.rest refl
+      joined_frames before does.between after (back_frame does.shelves before does.between does.given)
+      (framed does.between after _ after.said does.between.faults after.room does.between.lent does.between.returned does.finishes.rest)
+  changes (Err refusal.Desk) fails =
+      joined_frames before fails.between after (back_frame fails.shelves before fails.between fails.returns.given)
+      (framed fails.between after after.files after.said after.faults after.room fails.between.lent fails.between.returned fails.breaks.rest)
+  changes (Err refusal.Memory) stops =
+      joined_frames before stops.between after (back_frame stops.shelves before stops.between stops.returns.given)
+      (framed stops.between after after.files stops.between.said stops.between.faults stops.between.room stops.between.lent stops.between.returned stops.ceases.rest)
+  changes (Err (refusal.Store worker)) breaks = back_frame breaks.1.shelves before after breaks.1.returns.given
+  changes (Err (refusal.Damaged worker damage)) damages = back_frame damages.1.shelves before after damages.1.returns.given
   changes (Err other) none = absurd none
 
   -- a command without files leaves them
   pub leaves_files : (r : Result (Unit {0}) Refusal) → Performs done r before after → done.files ≡ [] → after.files ≡ before.files
-  leaves_files (Ok x) does none = ap (λ (desk : DeskTold). desk.files) does.rest ∙ ap (with_files before.files) none
+  leaves_files (Ok x) does none =
+      ap (λ (desk : DeskTold). desk.files) does.finishes.rest ∙ ap (with_files does.between.files) none ∙ back_files does.shelves before does.between does.given
   leaves_files (Err refusal.Desk) fails none =
-      all_stay before.files after.files (subst (λ (written : List NewFile). OthersStay written before.files after.files) none fails.files)
+      all_stay fails.between.files after.files (subst (λ (written : List NewFile). OthersStay written fails.between.files after.files) none fails.breaks.files)
+      ∙ back_files fails.shelves before fails.between fails.returns.given
   leaves_files (Err refusal.Memory) stops none =
-      all_stay before.files after.files (subst (λ (written : List NewFile). OthersStay written before.files after.files) none stops.files)
+      all_stay stops.between.files after.files (subst (λ (written : List NewFile). OthersStay written stops.between.files after.files) none stops.ceases.files)
+      ∙ back_files stops.shelves before stops.between stops.returns.given
+  leaves_files (Err (refusal.Store worker)) breaks none = back_files breaks.1.shelves before after breaks.1.returns.given
+  leaves_files (Err (refusal.Damaged worker damage)) damages none = back_files damages.1.shelves before after damages.1.returns.given
   leaves_files (Err other) performs none = absurd performs
+
+  -- a command that asks for no store leaves what came of others
+  pub leaves_stores : (r : Result (Unit {0}) Refusal) → Performs done r before after → done.moves ≡ [] → (after.returned ≡ before.returned) × (after.lent ≡ before.lent)
+  leaves_stores (Ok x) does none =
+      let many = moved_count done.moves does.shelves does.moved ∙ ap (λ (moves : List Moves). length moves) none in
+      let same = back_none does.shelves before does.between many does.given in (
+        ap (λ (desk : DeskTold). desk.returned) does.finishes.rest ∙ same.0,
+        ap (λ (desk : DeskTold). desk.lent) does.finishes.rest ∙ same.1,
+      )
+  leaves_stores (Err refusal.Desk) fails none =
+      let few = fails.returns.few in
+      let count = ap (λ (moves : List Moves). length moves) none in
+      let same = back_none fails.shelves before fails.between (omega (arith, few, count)) fails.returns.given in (
+        ap (λ (desk : DeskTold). desk.returned) fails.breaks.rest ∙ same.0,
+        ap (λ (desk : DeskTold). desk.lent) fails.breaks.rest ∙ same.1,
+      )
+  leaves_stores (Err refusal.Memory) stops none =
+      let few = stops.returns.few in
+      let count = ap (λ (moves : List Moves). length moves) none in
+      let same = back_none stops.shelves before stops.between (omega (arith, few, count)) stops.returns.given in (
+        ap (λ (desk : DeskTold). desk.returned) stops.ceases.rest ∙ same.0,
+        ap (λ (desk : DeskTold). desk.lent) stops.ceases.rest ∙ same.1,
+      )
+  leaves_stores (Err (refusal.Store worker)) breaks none =
+      let inside = breaks.0 in let count = ap (λ (moves : List Moves). length moves) none in absurd (omega (arith, inside, count))
+  leaves_stores (Err (refusal.Damaged worker damage)) damages none =
+      let inside = damages.0 in let count = ap (λ (moves : List Moves). length moves) none in absurd (omega (arith, inside, count))
+  leaves_stores (Err other) performs none = absurd performs
 
   -- it is what the work comes to
   pub works : (steady : Bool) (outcome : Result Done Refusal) (r : Result (Unit {0}) Refusal) → outcome ≡ Ok done → Performs done r before after →
@@ -54,32 +153,106 @@ module _ (done : Done) (before after : DeskTold) where
   works steady outcome (Ok x) comes does = rw comes does
   works steady outcome (Err refusal.Desk) comes fails = rw comes (λ sure. refl, fails)
   works steady outcome (Err refusal.Memory) comes stops = rw comes (tt, stops)
+  works steady outcome (Err (refusal.Store worker)) comes breaks = rw comes breaks
+  works steady outcome (Err (refusal.Damaged worker damage)) comes damages = rw comes damages
   works steady outcome (Err other) comes none = absurd none
 
+module _ (before after : DeskTold) (Is : Done → Type 0) where
   pub works_told : (steady : Bool) (files : Option Files) (outcome : Files → Result Done Refusal) (r : Result (Unit {0}) Refusal) →
-      IfSome files (λ told. outcome told ≡ Ok done) → Performs done r before after → IfSome files (λ told. Works steady (outcome told) r before after)
+      IfSome files (λ told. (done : Done) × Is done × (outcome told ≡ Ok done)) → ((done : Done) → Is done → Performs done r before after) →
+      IfSome files (λ told. Works steady (outcome told) r before after)
   works_told steady None outcome r comes performs = tt
-  works_told steady (Some told) outcome r comes performs = works steady (outcome told) r comes performs
+  works_told steady (Some told) outcome r comes performs = works comes.0 before after steady (outcome told) r comes.2 (performs comes.0 comes.1)
 
   pub steady_told : (files : Option Files) (outcome : Files → Result Done Refusal) (r : Result (Unit {0}) Refusal) →
-      IfSome files (λ told. outcome told ≡ Ok done) → (length done.said ≤ before.room → IsNoDeskFault r) →
-      IfSome files (λ told. IsNoDeskFault (outcome told) → HasRoom before (outcome told) → IsNoDeskFault r)
+      IfSome files (λ told. (done : Done) × Is done × (outcome told ≡ Ok done)) →
+      ((done : Done) → Is done → (done.moves ≢ [] → IsTrue before.stores_tell_pages) → length done.said ≤ before.room → IsNoDeskFault r) →
+      IfSome files (λ told. IsNoDeskFault (outcome told) → HasRoom before (outcome told) → TellsStores before (outcome told) → IsNoDeskFault r)
   steady_told None outcome r comes steady = tt
-  steady_told (Some told) outcome r comes steady = λ found has. steady (rw comes at has)
+  steady_told (Some told) outcome r comes steady = λ found has tells. steady comes.0 comes.1 (rw comes.2 at tells) (rw comes.2 at has)
+
+-- what is done without a store
+pub without_stores : (text : List ℕ) (files : List NewFile) (r : Result (Unit {0}) Refusal) (before after : DeskTold) →
+    Finished text files r before after → Performs (record { said = text; files = files; moves = [] }) r before after
+without_stores text files (Ok x) before after finishes = record {
+  shelves = [];
+  moved = tt;
+  between = before;
+  given = none_back before;
+  text = text;
+  right = inl refl;
+  finishes = finishes;
+}
+without_stores text files (Err refusal.Desk) before after breaks = record {
+  shelves = [];
+  between = before;
+  returns = record { few = omega arith; given = none_back before };
+  text = text;
+  right = inl refl;
+  breaks = breaks;
+}
+without_stores text files (Err refusal.Memory) before after ceases = record {
+  shelves = [];
+  between = before;
+  returns = record { few = omega arith; given = none_back before };
+  ceases = ceases;
+}
+without_stores text files (Err other) before after none = absurd none
+
+-- the same of work that does this
+pub work_without_stores : (done x : Done) (r : Result (Unit {0}) Refusal) (before after : DeskTold) → x.moves ≡ [] → done ≡ x → Finished x.said x.files r before after → Performs done r before after
+work_without_stores done x r before after none same finished =
+    subst (λ (d : Done). Performs d r before after)
+    (ap (λ (moves : List Moves). record { said = x.said; files = x.files; moves = moves }) (sym none) ∙ sym same)
+    (without_stores x.said x.files r before after finished)
 
 -- the desk that was read stays
 pub unread : (before mid : DeskTold) → mid ≡ record before { faults = mid.faults } → mid.faults ≡ before.faults → mid ≡ before
 unread before mid rest same = rest ∙ ap (λ (faults : ℕ). record before { faults = faults }) same
 
+-- what a step of the work refuses, before anything is done
+pub refused : (steady : Bool) (outcome : Result Done Refusal) (why : Refusal) (before after : DeskTold) → (IsOfStore why → outcome ≡ Err why → ⊥)
+    → Refuses steady why outcome → RefusalCounted before.faults after.faults why → after ≡ record before { faults = after.faults }
+    → Works {T = Unit {0}} steady outcome (Err why) before after
+refused steady outcome refusal.Desk before after none refuses counted rest = (
+  λ sure. rw (refuses sure) refl,
+  record {
+    shelves = [];
+    between = before;
+    returns = record { few = omega arith; given = none_back before };
+    text = text_of outcome;
+    right = inl refl;
+    breaks = record {
+      said = subst (λ (s : Option (List ℕ)). Grows before.said s (λ old new. (n : ℕ) × (new ≡ old ++ take n (text_of outcome)))) (sym (ap (λ (desk : DeskTold). desk.said) rest)) (grows_front before.said (text_of outcome));
+      files = subst (λ (f : Option Files). OthersStay (files_of outcome) before.files f) (sym (ap (λ (desk : DeskTold). desk.files) rest)) (none_stays (files_of outcome) before.files);
+      rises = counted.0;
+      rose = counted.1;
+      rest = rest ∙ ap (λ (f : Option Files). record before { files = f; faults = after.faults }) (sym (ap (λ (desk : DeskTold). desk.files) rest))
+          ∙ ap₂ (λ (s : Option (List ℕ)) (n : ℕ). record before { files = after.files; said = s; faults = after.faults; room = n })
+          (sym (ap (λ (desk : DeskTold). desk.said) rest)) (sym (ap (λ (desk : DeskTold). desk.room) rest));
+    };
+  },
+)
+refused steady outcome refusal.Memory before after none refuses counted rest =
+    let same = unread before after rest counted in (
+      tt,
+      record {
+        shelves = [];
+        between = before;
+        returns = record { few = omega arith; given = none_back before };
+        ceases = rw same (record { files = none_stays (files_of outcome) before.files; rest = refl });
+      },
+    )
+refused steady outcome (refusal.Store worker) before after none refuses counted rest = absurd (none tt refuses)
+refused steady outcome (refusal.Damaged worker damage) before after none refuses counted rest = absurd (none tt refuses)
+refused steady outcome why before after none refuses counted rest = (refuses, unread before after rest counted)
+
 -- ---- a file, and then a text
 
 module _ (file : NewFile) (text : List ℕ) where
-  abbrev both : Done
-  both = record { said = text; files = file ∷ [] }
-
   -- the file is written, and the text is said, or not
   pub written_said : (r : Result (Unit {0}) Refusal) (before mid after : DeskTold) → Writes {T = Unit {0}} (file ∷ []) (Ok tt) before mid
-      → Performs (says text) r mid after → Performs both r before after
+      → Finished text [] r mid after → Finished text (file ∷ []) r before after
   written_said (Ok x) before mid after wrote does = record {
     said = subst (λ (s : Option (List ℕ)). Grows s after.said (λ old new. new ≡ old ++ text)) (ap (λ (desk : DeskTold). desk.said) wrote) does.said;
     room = λ steady. let room = does.room (subst IsTrue (sym (ap (λ (desk : DeskTold). desk.steady) wrote)) steady) in omega (arith, room, ap (λ (desk : DeskTold). desk.room) wrote);
@@ -104,7 +277,7 @@ module _ (file : NewFile) (text : List ℕ) where
   written_said (Err other) before mid after wrote none = absurd none
 
   -- the file isn't written
-  pub unwritten : (why : Refusal) (before after : DeskTold) → Writes {T = Unit {0}} (file ∷ []) (Err why) before after → Performs {T = Unit {0}} both (Err why) before after
+  pub unwritten : (why : Refusal) (before after : DeskTold) → Writes {T = Unit {0}} (file ∷ []) (Err why) before after → Finished {T = Unit {0}} text (file ∷ []) (Err why) before after
   unwritten refusal.Desk before after wrote = record {
     said = subst (λ (s : Option (List ℕ)). Grows before.said s (λ old new. (n : ℕ) × (new ≡ old ++ take n text))) (sym (ap (λ (desk : DeskTold). desk.said) wrote.rest)) (grows_front before.said text);
     files = wrote.files;

@@ -166,16 +166,16 @@ value_or x (Err why) = x
 pub plans_written : (out : List ℕ) (program : MemProgram) (costs : List WorkerStats) (bytes text : List ℕ)
     → ◌≡◌ {A = Result (List ℕ) Refusal} (Ok (spelling_of program)) (Ok bytes)
     → ◌≡◌ {A = Result Done Refusal} (Ok (says (summary_text costs))) (Ok (says text))
-    → ◌≡◌ {A = Result Done Refusal} (Ok (plans out program costs)) (Ok (record { said = text; files = record { name = out; bytes = bytes } ∷ [] }))
+    → ◌≡◌ {A = Result Done Refusal} (Ok (plans out program costs)) (Ok (record { said = text; files = record { name = out; bytes = bytes } ∷ []; moves = [] }))
 plans_written out program costs bytes text spelled said =
     let b : spelling_of program ≡ bytes = ap (λ (r : Result (List ℕ) Refusal). value_or [] r) spelled in
     let t : summary_text costs ≡ text = ap (λ (r : Result Done Refusal). (value_or (says []) r).said) said in
-    ap₂ (λ (bs ts : List ℕ). Ok (record { said = ts; files = record { name = out; bytes = bs } ∷ [] })) b t
+    ap₂ (λ (bs ts : List ℕ). Ok (record { said = ts; files = record { name = out; bytes = bs } ∷ []; moves = [] })) b t
 
 -- the bytes of the memory program's file are what is written, and nothing is said
 pub upgrades_written : (out : List ℕ) (program : MemProgram) (bytes text : List ℕ)
     → ◌≡◌ {A = Result (List ℕ) Refusal} (Ok (spelling_of program)) (Ok bytes) → text ≡ []
-    → ◌≡◌ {A = Result Done Refusal} (Ok (upgrades out program)) (Ok (record { said = text; files = record { name = out; bytes = bytes } ∷ [] }))
+    → ◌≡◌ {A = Result Done Refusal} (Ok (upgrades out program)) (Ok (record { said = text; files = record { name = out; bytes = bytes } ∷ []; moves = [] }))
 upgrades_written out program bytes text spelled none =
     let b : spelling_of program ≡ bytes = ap (λ (r : Result (List ℕ) Refusal). value_or [] r) spelled in
-    rw none (ap (λ (bs : List ℕ). Ok (record { said = []; files = record { name = out; bytes = bs } ∷ [] })) b)
+    rw none (ap (λ (bs : List ℕ). Ok (record { said = []; files = record { name = out; bytes = bs } ∷ []; moves = [] })) b)

@@ -5,13 +5,15 @@ use Rattle.mage_base.specs.Desk.{Files}
 use Rattle.mage_lex.specs.Limits.{MOST_BYTES}
 use Rattle.mage_chains.specs.Chains.{◌>>=◌}
 use Rattle.mage_instr.specs.declared.party.Party.TheVariants as party
+use Rattle.mage_instr.specs.declared.directive.MemProgram.{MemProgram}
 use Rattle.mage_pipe.specs.declared.loaded.Loaded.{Loaded}
 use Rattle.mage_pipe.specs.declared.stats.WorkerStats.{WorkerStats}
-use Rattle.mage_words.specs.Words.{Deal, SoloRequest, StatsRequest, DealRequest, request_of}
+use Rattle.mage_source_runs.specs.Moves.{moves_of}
+use Rattle.mage_words.specs.Words.{Deal, Solo, SoloRequest, StatsRequest, DealRequest}
 use Rattle.mage_planner.specs.declared.refusal.Refusal.{Refusal}
 use Rattle.mage_planner.specs.declared.refusal.Refusal.TheVariants as refusal
 use Rattle.mage_planner.specs.SummaryText.{summary_text}
-use Rattle.mage_planner.specs.Outcome.{File, Absent, Found, nothing_found, found_in, file_at, file_named, INPUT_LIMIT, SEED_BYTES, Done, says, deals, source_of, costs_of, planned_of, numbers_of, seed_of, said_of, solo_outcome, stats_outcome, deal_outcome, outcome_for, outcome_of}
+use Rattle.mage_planner.specs.Outcome.{File, Absent, Found, nothing_found, found_in, file_at, file_named, INPUT_LIMIT, SEED_BYTES, Done, says, runs, deals, source_of, costs_of, program_for, numbers_of, seed_of, said_of, solo_outcome, stats_outcome, deal_outcome, outcome_for, outcome_of, asked_of, garbler_of, evaluator_of}
 use Rattle.mage_planner.specs.Steps.{Refuses}
 
 -- ---- chains
@@ -58,61 +60,79 @@ for_deal source evaluator seed =
 -- ---- `solo`
 
 -- what comes after the evaluator's numbers
-abbrev to_outputs : Loaded → (garbler evaluator : List (List ℕ)) → Result Done Refusal
-to_outputs loaded garbler evaluator =
-    Ok (says (said_of loaded (record { garbler = garbler; evaluator = evaluator })))
+abbrev to_run : Loaded → MemProgram → (garbler evaluator : List (List ℕ)) → Result Done Refusal
+to_run loaded program garbler evaluator =
+    Ok (runs (said_of loaded (record { garbler = garbler; evaluator = evaluator })) (moves_of program))
 
 -- what comes after the garbler's numbers
-abbrev to_evaluator : Loaded → File → (garbler : List (List ℕ)) → Result Done Refusal
-to_evaluator loaded evaluator garbler =
-    numbers_of party.Evaluator loaded evaluator >>= to_outputs loaded garbler
+abbrev to_evaluator : Loaded → File → MemProgram → (garbler : List (List ℕ)) → Result Done Refusal
+to_evaluator loaded evaluator program garbler =
+    numbers_of party.Evaluator loaded evaluator >>= to_run loaded program garbler
+
+-- what comes after the memory program
+abbrev to_garbler : (garbler evaluator : File) → Loaded → MemProgram → Result Done Refusal
+to_garbler garbler evaluator loaded program =
+    numbers_of party.Garbler loaded garbler >>= to_evaluator loaded evaluator program
 
 -- what comes after the source
-abbrev to_garbler : (garbler evaluator : File) → Loaded → Result Done Refusal
-to_garbler garbler evaluator loaded =
-    numbers_of party.Garbler loaded garbler >>= to_evaluator loaded evaluator
+abbrev to_planned : SoloRequest → (garbler evaluator : File) → Loaded → Result Done Refusal
+to_planned solo garbler evaluator loaded = program_for solo.limits loaded >>= to_garbler garbler evaluator loaded
 
 -- the source is refused
 pub solo-source : (solo : SoloRequest) (file : File) (s : Refusal)
-    → Refuses true s (planned_of solo.limits file) → Refuses true s (solo_outcome (only_source file) solo)
+    → Refuses true s (source_of file) → Refuses true s (solo_outcome (only_source file) solo)
 unfolding solo_outcome
-solo-source solo file s refused =
-    at_first s (planned_of solo.limits file) (to_garbler Absent Absent) refused
+solo-source solo file s refused = at_first s (source_of file) (to_planned solo Absent Absent) refused
+
+-- a limit is too low
+pub solo-limits : (solo : SoloRequest) (file : File) (loaded : Loaded) (s : Refusal)
+    → source_of file ≡ Ok loaded → Refuses true s (program_for solo.limits loaded)
+    → Refuses true s (solo_outcome (only_source file) solo)
+unfolding solo_outcome
+solo-limits solo file loaded s read refused =
+    after_first s (source_of file) loaded (to_planned solo Absent Absent) read
+    (at_first s (program_for solo.limits loaded) (to_garbler Absent Absent loaded) refused)
 
 -- the garbler's text is refused
-pub solo-garbler : (solo : SoloRequest) (file garbler : File) (loaded : Loaded) (s : Refusal)
-    → planned_of solo.limits file ≡ Ok loaded → Refuses true s (numbers_of party.Garbler loaded garbler)
+pub solo-garbler : (solo : SoloRequest) (file garbler : File) (loaded : Loaded) (program : MemProgram) (s : Refusal)
+    → source_of file ≡ Ok loaded → program_for solo.limits loaded ≡ Ok program
+    → Refuses true s (numbers_of party.Garbler loaded garbler)
     → Refuses true s (solo_outcome (source_garbler file garbler) solo)
 unfolding solo_outcome
-solo-garbler solo file garbler loaded s planned refused =
-    after_first s (planned_of solo.limits file) loaded (to_garbler garbler Absent) planned
-    (at_first s (numbers_of party.Garbler loaded garbler) (to_evaluator loaded Absent) refused)
+solo-garbler solo file garbler loaded program s read planned refused =
+    after_first s (source_of file) loaded (to_planned solo garbler Absent) read
+    (after_first s (program_for solo.limits loaded) program (to_garbler garbler Absent loaded) planned
+    (at_first s (numbers_of party.Garbler loaded garbler) (to_evaluator loaded Absent program) refused))
 
 -- the evaluator's text is refused
-pub solo-evaluator : (solo : SoloRequest) (file garbler evaluator : File) (loaded : Loaded)
+pub solo-evaluator : (solo : SoloRequest) (file garbler evaluator : File) (loaded : Loaded) (program : MemProgram)
     (numbers : List (List ℕ)) (s : Refusal)
-    → planned_of solo.limits file ≡ Ok loaded → numbers_of party.Garbler loaded garbler ≡ Ok numbers
+    → source_of file ≡ Ok loaded → program_for solo.limits loaded ≡ Ok program
+    → numbers_of party.Garbler loaded garbler ≡ Ok numbers
     → Refuses true s (numbers_of party.Evaluator loaded evaluator)
     → Refuses true s (solo_outcome (all_three file garbler evaluator) solo)
 unfolding solo_outcome
-solo-evaluator solo file garbler evaluator loaded numbers s planned read refused =
-    after_first s (planned_of solo.limits file) loaded (to_garbler garbler evaluator) planned
-    (after_first s (numbers_of party.Garbler loaded garbler) numbers (to_evaluator loaded evaluator) read
-    (at_first s (numbers_of party.Evaluator loaded evaluator) (to_outputs loaded numbers) refused))
+solo-evaluator solo file garbler evaluator loaded program numbers s read planned read_too refused =
+    after_first s (source_of file) loaded (to_planned solo garbler evaluator) read
+    (after_first s (program_for solo.limits loaded) program (to_garbler garbler evaluator loaded) planned
+    (after_first s (numbers_of party.Garbler loaded garbler) numbers (to_evaluator loaded evaluator program) read_too
+    (at_first s (numbers_of party.Evaluator loaded evaluator) (to_run loaded program numbers) refused)))
 
 -- all is read
-pub solo-all : (solo : SoloRequest) (file garbler evaluator : File) (loaded : Loaded)
+pub solo-all : (solo : SoloRequest) (found : Found) (loaded : Loaded) (program : MemProgram)
     (numbers given : List (List ℕ))
-    → planned_of solo.limits file ≡ Ok loaded → numbers_of party.Garbler loaded garbler ≡ Ok numbers
-    → numbers_of party.Evaluator loaded evaluator ≡ Ok given
-    → solo_outcome (all_three file garbler evaluator) solo
-    ≡ Ok (says (said_of loaded (record { garbler = numbers; evaluator = given })))
+    → source_of found.source ≡ Ok loaded → program_for solo.limits loaded ≡ Ok program
+    → numbers_of party.Garbler loaded found.garbler ≡ Ok numbers
+    → numbers_of party.Evaluator loaded found.evaluator ≡ Ok given
+    → solo_outcome found solo
+    ≡ Ok (runs (said_of loaded (record { garbler = numbers; evaluator = given })) (moves_of program))
 unfolding solo_outcome
-solo-all solo file garbler evaluator loaded numbers given planned read read_too =
-    let said = says (said_of loaded (record { garbler = numbers; evaluator = given })) in
-    both_done (planned_of solo.limits file) loaded (to_garbler garbler evaluator) said planned
-    (both_done (numbers_of party.Garbler loaded garbler) numbers (to_evaluator loaded evaluator) said read
-    (ap (λ step. step >>= to_outputs loaded numbers) read_too))
+solo-all solo found loaded program numbers given read planned read_too read_last =
+    let done = runs (said_of loaded (record { garbler = numbers; evaluator = given })) (moves_of program) in
+    both_done (source_of found.source) loaded (to_planned solo found.garbler found.evaluator) done read
+    (both_done (program_for solo.limits loaded) program (to_garbler found.garbler found.evaluator loaded) done planned
+    (both_done (numbers_of party.Garbler loaded found.garbler) numbers (to_evaluator loaded found.evaluator program) done read_too
+    (ap (λ step. step >>= to_run loaded program numbers) read_last)))
 
 -- ---- `stats`
 
@@ -228,11 +248,28 @@ deal-all deal file evaluator seed loaded numbers bytes read read_too has =
     (both_done (numbers_of party.Evaluator loaded evaluator) numbers (to_seed deal seed loaded) done read_too
     (ap (λ step. step >>= to_files deal loaded numbers) has))
 
+-- `solo` where the desk tells its files: the evaluator's text is refused, and all is read
+pub solo-evaluator-told : (steady : Bool) (files : Option Files) (solo : SoloRequest) (loaded : Loaded) (program : MemProgram) (numbers : List (List ℕ)) (s : Refusal)
+    → IfSome files (λ f. source_of (file_at f solo.source MOST_BYTES) ≡ Ok loaded)
+    → program_for solo.limits loaded ≡ Ok program
+    → IfSome files (λ f. numbers_of party.Garbler loaded (file_named f (garbler_of solo.driver) INPUT_LIMIT) ≡ Ok numbers)
+    → IfSome files (λ f. Refuses steady s (numbers_of party.Evaluator loaded (file_named f (evaluator_of solo.driver) INPUT_LIMIT)))
+    → IfSome files (λ f. Refuses steady s (solo_outcome (found_in f (Solo solo)) solo))
+unfolding solo_outcome
+solo-evaluator-told steady None solo loaded program numbers s read planned read_too refused = tt
+solo-evaluator-told steady (Some f) solo loaded program numbers s read planned read_too refused =
+    let garbler = file_named f (garbler_of solo.driver) INPUT_LIMIT in
+    let evaluator = file_named f (evaluator_of solo.driver) INPUT_LIMIT in
+    told_so steady s (numbers_of party.Evaluator loaded evaluator) (source_of (file_at f solo.source MOST_BYTES) >>= to_planned solo garbler evaluator)
+    (λ e. ap (λ step. step >>= to_planned solo garbler evaluator) read
+    ∙ (ap (λ step. step >>= to_garbler garbler evaluator loaded) planned
+    ∙ (ap (λ step. step >>= to_evaluator loaded evaluator program) read_too ∙ ap (λ step. step >>= to_run loaded program numbers) e))) refused
+
 -- ---- the words
 
 -- the words ask for nothing
 pub work-words : (found : Found) (words : List (List ℕ)) (s : Refusal)
-    → Refuses true s (ok_or (request_of words) refusal.Words) → Refuses true s (outcome_of found words)
+    → Refuses true s (ok_or (asked_of words) refusal.Words) → Refuses true s (outcome_of found words)
 unfolding outcome_of
 work-words found words s refused =
-    at_first s (ok_or (request_of words) refusal.Words) (outcome_for found) refused
+    at_first s (ok_or (asked_of words) refusal.Words) (outcome_for found) refused

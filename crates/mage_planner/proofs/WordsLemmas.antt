@@ -1,5 +1,5 @@
 -- Only words that ask for nothing come to the refusal of words.
-use Rattle.std.proofs.Common.{◌≡◌, ◌==◌, ℕ, List, [], length, Bool, cond, true, false, Option, Some, None, Result, Ok, Err, ok_or, refl, sym, ap, inl, inr}
+use Rattle.std.proofs.Common.{◌≡◌, ◌==◌, ℕ, List, [], length, Bool, cond, true, false, Option, Some, None, Result, Ok, Err, ok_or, refl, sym, ap, ◌∙◌, inl, inr, arith}
 use Rattle.mage_chains.specs.Chains.{◌>>=◌}
 use Rattle.mage_base.specs.Desk.{DeskTold}
 use Rattle.mage_instr.specs.declared.party.Party.{Party}
@@ -23,20 +23,23 @@ use Rattle.mage_verify.specs.declared.fault.VerifyFault.{VerifyFault}
 use Rattle.mage_verify.specs.declared.fault.VerifyFault.TheVariants as verified
 use Rattle.mage_verify.specs.Faults.{fault_of}
 use Rattle.mage_texts.specs.InputText.{inputs_of}
-use Rattle.mage_words.specs.Words.{Request, Solo, Stats, Deal, Plan, Check, Upgrade, SoloRequest, StatsRequest, DealRequest, PlanRequest, CheckRequest, UpgradeRequest, request_of}
+use Rattle.mage_source_runs.specs.Moves.{moves_of}
+use Rattle.mage_words.specs.Words.{Request, Solo, Stats, Deal, Plan, Check, Upgrade, Gen, SoloRequest, StatsRequest, DealRequest, PlanRequest, CheckRequest, UpgradeRequest, request_of}
 use Rattle.mage_planner.specs.declared.refusal.Refusal.{Refusal}
 use Rattle.mage_planner.specs.declared.refusal.Refusal.TheVariants as refusal
 use Rattle.mage_planner.specs.declared.status.Status.{Status}
 use Rattle.mage_planner.specs.declared.status.Status.TheVariants as status
 use Rattle.mage_planner.specs.Lines.{status_of}
-use Rattle.mage_planner.specs.Outcome.{File, Absent, Long, Held, Found, Done, SEED_BYTES, says, deals, bytes_or, or_language, or_limits, or_line, long_source, said_of, source_of, costs_of, if_planned, if_seed, seed_of, planned_of, numbers_of, plans, or_file, unless_faulty, long_program, program_of, carry_of, carried_or, first_program_of, renamed_of, upgrades, solo_outcome, stats_outcome, deal_outcome, plan_outcome, check_outcome, upgrade_outcome, outcome_for, outcome_of}
+use Rattle.mage_planner.specs.Outcome.{File, Absent, Long, Held, Found, Done, SEED_BYTES, says, runs, deals, bytes_or, or_language, or_limits, or_line, long_source, said_of, source_of, costs_of, program_for, if_seed, seed_of, numbers_of, plans, or_file, unless_faulty, long_program, program_of, carry_of, carried_or, first_program_of, renamed_of, upgrades, solo_outcome, stats_outcome, deal_outcome, plan_outcome, check_outcome, upgrade_outcome, outcome_for, outcome_of, asked_of, if_built, is_plain}
 use Rattle.mage_planner.specs.SummaryText.{summary_text}
 use Rattle.mage_planner.specs.Warned.{IsOrMemory}
-use Rattle.mage_planner.specs.Answer.{Works, ComesFrom, IsWordsOrMemory, WritesNoFile, files_of}
+use Rattle.mage_planner.specs.Answer.{Works, ComesFrom, IsWordsOrMemory, WritesNoFile, RunsNothing}
 
--- another refusal than that of the words, or none
+-- another refusal than that of the words, and none of a store, or none
 abbrev IsOther : Refusal → Type 0
 IsOther refusal.Words = ⊥
+IsOther (refusal.Store worker) = ⊥
+IsOther (refusal.Damaged worker damage) = ⊥
 IsOther other = Unit {0}
 
 abbrev NoWords : {T : Type 0} → Result T Refusal → Type 0
@@ -79,17 +82,8 @@ source_other file =
 costs_other : (limits : Limits) (loaded : Loaded) → NoWords (costs_of limits loaded)
 costs_other limits loaded = limits_other (stats_of limits loaded.program.workers)
 
-if_planned_other : (limits : Limits) (loaded : Loaded) → NoWords (if_planned limits loaded)
-unfolding if_planned
-if_planned_other limits loaded =
-    then_other (costs_of limits loaded) (λ costs. Ok loaded) (costs_other limits loaded)
-    (λ costs. tt)
-
-planned_other : (limits : Limits) (file : File) → NoWords (planned_of limits file)
-unfolding planned_of
-planned_other limits file =
-    then_other (source_of file) (if_planned limits) (source_other file)
-    (λ loaded. if_planned_other limits loaded)
+program_other_for : (limits : Limits) (loaded : Loaded) → NoWords (program_for limits loaded)
+program_other_for limits loaded = limits_other (memory_program_of limits loaded.program.workers)
 
 numbers_other : (whose : Party) (loaded : Loaded) (file : File)
     → NoWords (numbers_of whose loaded file)
@@ -103,13 +97,13 @@ numbers_other whose loaded file =
 solo_other : (found : Found) (solo : SoloRequest) → NoWords (solo_outcome found solo)
 unfolding solo_outcome
 solo_other found solo =
-    then_other (planned_of solo.limits found.source) _
-    (planned_other solo.limits found.source) (λ loaded.
+    then_other (source_of found.source) _ (source_other found.source) (λ loaded.
+    then_other (program_for solo.limits loaded) _ (program_other_for solo.limits loaded) (λ program.
     then_other (numbers_of party.Garbler loaded found.garbler) _
     (numbers_other party.Garbler loaded found.garbler) (λ garbler.
     then_other (numbers_of party.Evaluator loaded found.evaluator)
-    (λ evaluator. Ok (says (said_of loaded (record { garbler = garbler; evaluator = evaluator }))))
-    (numbers_other party.Evaluator loaded found.evaluator) (λ evaluator. tt)))
+    (λ evaluator. Ok (runs (said_of loaded (record { garbler = garbler; evaluator = evaluator })) (moves_of program)))
+    (numbers_other party.Evaluator loaded found.evaluator) (λ evaluator. tt))))
 
 stats_other : (found : Found) (stats : StatsRequest) → NoWords (stats_outcome found stats)
 unfolding stats_outcome
@@ -141,8 +135,7 @@ plan_other : (found : Found) (plan : PlanRequest) → NoWords (plan_outcome foun
 unfolding plan_outcome
 plan_other found plan =
     then_other (source_of found.source) _ (source_other found.source) (λ loaded.
-    then_other (or_limits (memory_program_of plan.limits loaded.program.workers)) _
-    (limits_other (memory_program_of plan.limits loaded.program.workers)) (λ program.
+    then_other (program_for plan.limits loaded) _ (program_other_for plan.limits loaded) (λ program.
     then_other (costs_of plan.limits loaded) (λ costs. Ok (plans plan.out program costs))
     (costs_other plan.limits loaded) (λ costs. tt)))
 
@@ -196,14 +189,6 @@ upgrade_other found upgrade =
     then_other (renamed_of program) (λ renamed. Ok (upgrades upgrade.out renamed))
     (faulty_other (fault_of program) _) (λ renamed. tt))
 
-request_other : (found : Found) (request : Request) → NoWords (outcome_for found request)
-request_other found (Solo solo) = solo_other found solo
-request_other found (Stats stats) = stats_other found stats
-request_other found (Deal deal) = deal_other found deal
-request_other found (Plan plan) = plan_other found plan
-request_other found (Check check) = check_other found check
-request_other found (Upgrade upgrade) = upgrade_other found upgrade
-
 words_only : (outcome : Result Done Refusal) → NoWords outcome → outcome ≡ Err refusal.Words → ⊥
 words_only (Ok done) other e = cc
 words_only (Err why) other e = words_not why other (cc) where
@@ -213,10 +198,18 @@ words_only (Err why) other e = words_not why other (cc) where
 
 -- the words ask for nothing where the outcome is their refusal
 asks_nothing : (found : Found) (asked : Option Request)
-    → (ok_or asked refusal.Words >>= outcome_for found) ≡ Err refusal.Words → asked ≡ None
+    → (ok_or (if_built asked) refusal.Words >>= outcome_for found) ≡ Err refusal.Words → if_built asked ≡ None
 asks_nothing found None e = refl
-asks_nothing found (Some request) e =
-    absurd (words_only (outcome_for found request) (request_other found request) e)
+asks_nothing found (Some (Solo solo)) e = go (is_plain solo.driver) e where
+  go : (b : Bool) → (ok_or (cond b (Some (Solo solo)) None) refusal.Words >>= outcome_for found) ≡ Err refusal.Words → cond b (Some (Solo solo)) None ≡ None
+  go true e = absurd (words_only (solo_outcome found solo) (solo_other found solo) e)
+  go false e = refl
+asks_nothing found (Some (Stats stats)) e = absurd (words_only (stats_outcome found stats) (stats_other found stats) e)
+asks_nothing found (Some (Deal deal)) e = absurd (words_only (deal_outcome found deal) (deal_other found deal) e)
+asks_nothing found (Some (Plan plan)) e = absurd (words_only (plan_outcome found plan) (plan_other found plan) e)
+asks_nothing found (Some (Check check)) e = absurd (words_only (check_outcome found check) (check_other found check) e)
+asks_nothing found (Some (Upgrade upgrade)) e = absurd (words_only (upgrade_outcome found upgrade) (upgrade_other found upgrade) e)
+asks_nothing found (Some (Gen gen)) e = refl
 
 is_words : (why : Refusal) → status_of why ≡ status.Words → why ≡ refusal.Words
 is_words refusal.Words e = refl
@@ -228,6 +221,8 @@ from_words : (why : Refusal) → ComesFrom true (Err refusal.Words) why
 from_words refusal.Words comes = tt
 from_words refusal.Memory comes = tt
 from_words refusal.Desk comes = let e = comes refl in cc
+from_words (refusal.Store worker) comes = absurd (omega (arith, comes))
+from_words (refusal.Damaged worker damage) comes = absurd (omega (arith, comes))
 from_words why comes = cc
 
 -- the status of a warned refusal is that of the words just where these ask for nothing, but for want of
@@ -236,8 +231,8 @@ pub words_refused : (own warned : Refusal) (answer : Status)
     → answer ≡ status_of warned → IsOrMemory own warned
     → (words : List (List ℕ)) (before between : DeskTold)
     → (found : Found) × Works {T = Unit {0}} true (outcome_of found words) (Err own) before between
-    → (answer ≡ status.Words → request_of words ≡ None)
-    × (request_of words ≡ None → IsWordsOrMemory answer)
+    → (answer ≡ status.Words → asked_of words ≡ None)
+    × (asked_of words ≡ None → IsWordsOrMemory answer)
 unfolding outcome_of
 words_refused own warned answer is (inl same) words before between works = (
   λ answered. let e = is_words warned (rw (← is) answered) in
@@ -250,8 +245,8 @@ words_refused own warned answer is (inr memory) words before between works =
 -- nothing is done where the words ask for nothing
 pub words_done : (words : List (List ℕ)) (before after : DeskTold)
     → (found : Found) × Works {T = Unit {0}} true (outcome_of found words) (Ok tt) before after
-    → (status.Ok ≡ status.Words → request_of words ≡ None)
-    × (request_of words ≡ None → IsWordsOrMemory status.Ok)
+    → (status.Ok ≡ status.Words → asked_of words ≡ None)
+    × (asked_of words ≡ None → IsWordsOrMemory status.Ok)
 unfolding outcome_of
 words_done words before after works = (λ same. cc, λ nothing. rw nothing at works.1)
 
@@ -261,16 +256,20 @@ then_ok : {A B : Type 0} (r : Result A Refusal) (f : A → Result B Refusal) (y 
 then_ok (Ok x) f y is = (x, is)
 then_ok (Err why) f y is = cc
 
+same_done : (x done : Done) → ◌≡◌ {A = Result Done Refusal} (Ok x) (Ok done) → x ≡ done
+same_done x done is = cc
+
 says_no_file : (text : List ℕ) (done : Done) → ◌≡◌ {A = Result Done Refusal} (Ok (says text)) (Ok done) → done.files ≡ []
-says_no_file text done is = ap (λ (r : Result Done Refusal). files_of r) (sym is)
+says_no_file text done is = ap (λ (d : Done). d.files) (sym (same_done (says text) done is))
 
 solo_writes_none : (found : Found) (solo : SoloRequest) (done : Done) → solo_outcome found solo ≡ Ok done → done.files ≡ []
 unfolding solo_outcome
 solo_writes_none found solo done is =
-    let loaded = then_ok (planned_of solo.limits found.source) _ done is in
-    let garbler = then_ok (numbers_of party.Garbler loaded.0 found.garbler) _ done loaded.1 in
+    let loaded = then_ok (source_of found.source) _ done is in
+    let program = then_ok (program_for solo.limits loaded.0) _ done loaded.1 in
+    let garbler = then_ok (numbers_of party.Garbler loaded.0 found.garbler) _ done program.1 in
     let evaluator = then_ok (numbers_of party.Evaluator loaded.0 found.evaluator) _ done garbler.1 in
-    says_no_file _ done evaluator.1
+    ap (λ (d : Done). d.files) (sym (same_done _ done evaluator.1))
 
 stats_writes_none : (found : Found) (stats : StatsRequest) (done : Done) → stats_outcome found stats ≡ Ok done → done.files ≡ []
 unfolding stats_outcome
@@ -293,9 +292,9 @@ check_writes_none found check done is =
     carried_none judged.0 done judged.1
 
 -- what is done by words that ask for no file has none
-pub writes_none_of : (found : Found) (words : List (List ℕ)) (done : Done) → WritesNoFile (request_of words) → outcome_of found words ≡ Ok done → done.files ≡ []
+pub writes_none_of : (found : Found) (words : List (List ℕ)) (done : Done) → WritesNoFile (asked_of words) → outcome_of found words ≡ Ok done → done.files ≡ []
 unfolding outcome_of
-writes_none_of found words done none is = go (request_of words) none is where
+writes_none_of found words done none is = go (asked_of words) none is where
   go : (asked : Option Request) → WritesNoFile asked → (ok_or asked refusal.Words >>= outcome_for found) ≡ Ok done → done.files ≡ []
   go None none is = cc
   go (Some (Solo solo)) none is = solo_writes_none found solo done is
@@ -304,3 +303,106 @@ writes_none_of found words done none is = go (request_of words) none is where
   go (Some (Plan plan)) none is = absurd none
   go (Some (Check check)) none is = check_writes_none found check done is
   go (Some (Upgrade upgrade)) none is = absurd none
+  go (Some (Gen gen)) none is = absurd none
+
+-- ---- commands that ask for no store
+
+-- what is done so asks for none
+no_moves : (x done : Done) → x.moves ≡ [] → ◌≡◌ {A = Result Done Refusal} (Ok x) (Ok done) → done.moves ≡ []
+no_moves x done none is = ap (λ (d : Done). d.moves) (sym (same_done x done is)) ∙ none
+
+stats_moves_none : (found : Found) (stats : StatsRequest) (done : Done) → stats_outcome found stats ≡ Ok done → done.moves ≡ []
+unfolding stats_outcome
+stats_moves_none found stats done is =
+    let loaded = then_ok (source_of found.source) _ done is in
+    let costs = then_ok (costs_of stats.limits loaded.0) _ done loaded.1 in
+    no_moves _ done refl costs.1
+
+deal_moves_none : (found : Found) (deal : DealRequest) (done : Done) → deal_outcome found deal ≡ Ok done → done.moves ≡ []
+unfolding deal_outcome
+deal_moves_none found deal done is =
+    let loaded = then_ok (source_of found.source) _ done is in
+    let evaluator = then_ok (numbers_of party.Evaluator loaded.0 found.evaluator) _ done loaded.1 in
+    let seed = then_ok (seed_of found.seed) _ done evaluator.1 in
+    no_moves _ done refl seed.1
+
+plan_moves_none : (found : Found) (plan : PlanRequest) (done : Done) → plan_outcome found plan ≡ Ok done → done.moves ≡ []
+unfolding plan_outcome
+plan_moves_none found plan done is =
+    let loaded = then_ok (source_of found.source) _ done is in
+    let program = then_ok (program_for plan.limits loaded.0) _ done loaded.1 in
+    let costs = then_ok (costs_of plan.limits loaded.0) _ done program.1 in
+    no_moves _ done refl costs.1
+
+carried_moves_none : (judged : Carry) (done : Done) → carried_or judged ≡ Ok done → done.moves ≡ []
+carried_moves_none carry.Yes done is = no_moves _ done refl is
+carried_moves_none (carry.No worker directive) done is = cc
+
+check_moves_none : (found : Found) (check : CheckRequest) (done : Done) → check_outcome found check ≡ Ok done → done.moves ≡ []
+unfolding check_outcome
+check_moves_none found check done is =
+    let loaded = then_ok (source_of found.source) _ done is in
+    let program = then_ok (program_of found.program) _ done loaded.1 in
+    let judged = then_ok (carry_of loaded.0.program program.0) _ done program.1 in
+    carried_moves_none judged.0 done judged.1
+
+upgrade_moves_none : (found : Found) (upgrade : UpgradeRequest) (done : Done) → upgrade_outcome found upgrade ≡ Ok done → done.moves ≡ []
+unfolding upgrade_outcome
+upgrade_moves_none found upgrade done is =
+    let program = then_ok (first_program_of found.program) _ done is in
+    let renamed = then_ok (renamed_of program.0) _ done program.1 in
+    no_moves _ done refl renamed.1
+
+-- what is done by words that ask for no run asks for no store
+pub moves_none_of : (found : Found) (words : List (List ℕ)) (done : Done) → RunsNothing (asked_of words) → outcome_of found words ≡ Ok done → done.moves ≡ []
+unfolding outcome_of
+moves_none_of found words done none is = go (asked_of words) none is where
+  go : (asked : Option Request) → RunsNothing asked → (ok_or asked refusal.Words >>= outcome_for found) ≡ Ok done → done.moves ≡ []
+  go None none is = cc
+  go (Some (Solo solo)) none is = absurd none
+  go (Some (Stats stats)) none is = stats_moves_none found stats done is
+  go (Some (Deal deal)) none is = deal_moves_none found deal done is
+  go (Some (Plan plan)) none is = plan_moves_none found plan done is
+  go (Some (Check check)) none is = check_moves_none found check done is
+  go (Some (Upgrade upgrade)) none is = upgrade_moves_none found upgrade done is
+  go (Some (Gen gen)) none is = absurd none
+
+-- ---- no command comes to a fault of a store by its words and files
+
+-- a fault of a store
+abbrev pub IsOfStore : Refusal → Type 0
+IsOfStore (refusal.Store worker) = Unit {0}
+IsOfStore (refusal.Damaged worker damage) = Unit {0}
+IsOfStore other = ⊥
+
+not_of_store : (why : Refusal) → IsOther why → IsOfStore why → ⊥
+not_of_store (refusal.Store worker) other of = other
+not_of_store (refusal.Damaged worker damage) other of = other
+not_of_store why other of = of
+
+not_store : (r : Result Done Refusal) → NoWords r → (why : Refusal) → IsOfStore why → r ≡ Err why → ⊥
+not_store (Ok done) other why of e = cc
+not_store (Err own) other why of e = let same : own ≡ why = cc in not_of_store why (rw same at other) of
+
+not_words : (why : Refusal) → IsOfStore why → ◌≡◌ {A = Result Done Refusal} (Err refusal.Words) (Err why) → ⊥
+not_words (refusal.Store worker) of e = cc
+not_words (refusal.Damaged worker damage) of e = cc
+not_words why of e = of
+
+by_driver : (found : Found) (why : Refusal) → IsOfStore why → (solo : SoloRequest) (b : Bool)
+    → (ok_or (cond b (Some (Solo solo)) None) refusal.Words >>= outcome_for found) ≡ Err why → ⊥
+by_driver found why of solo true e = not_store (solo_outcome found solo) (solo_other found solo) why of e
+by_driver found why of solo false e = not_words why of e
+
+pub no_store_fault : (found : Found) (words : List (List ℕ)) (why : Refusal) → IsOfStore why → outcome_of found words ≡ Err why → ⊥
+unfolding outcome_of
+no_store_fault found words why of e = go (request_of words) e where
+  go : (asked : Option Request) → (ok_or (if_built asked) refusal.Words >>= outcome_for found) ≡ Err why → ⊥
+  go None e = not_words why of e
+  go (Some (Solo solo)) e = by_driver found why of solo (is_plain solo.driver) e
+  go (Some (Stats stats)) e = not_store (stats_outcome found stats) (stats_other found stats) why of e
+  go (Some (Deal deal)) e = not_store (deal_outcome found deal) (deal_other found deal) why of e
+  go (Some (Plan plan)) e = not_store (plan_outcome found plan) (plan_other found plan) why of e
+  go (Some (Check check)) e = not_store (check_outcome found check) (check_other found check) why of e
+  go (Some (Upgrade upgrade)) e = not_store (upgrade_outcome found upgrade) (upgrade_other found upgrade) why of e
+  go (Some (Gen gen)) e = not_words why of e

@@ -18,7 +18,7 @@ use Rattle.mage_planner.specs.Answer.{OthersStay, with_files}
 use Rattle.mage_linked.specs.Workers.{list_at}
 use Rattle.mage_texts.specs.Lists.{lists_of}
 use Rattle.mage_planner.specs.Warned.{Grows}
-use Rattle.mage_planner.specs.Writing.{Opens, Fills, Writes, Performs}
+use Rattle.mage_planner.specs.Writing.{Opens, Fills, Writes, Finished}
 
 -- ---- files by name
 
@@ -46,7 +46,7 @@ first_all P x xs all = all 0 x (omega arith)
 others_all : {X : Type 0} (P : X → Type 0) (x : X) (xs : List X) → All P (x ∷ xs) → All P xs
 others_all P x xs all = λ k d less. all (suc k) d (omega (arith, less))
 
-both_all : {X : Type 0} (P : X → Type 0) (x : X) (xs : List X) → P x → All P xs → All P (x ∷ xs)
+pub both_all : {X : Type 0} (P : X → Type 0) (x : X) (xs : List X) → P x → All P xs → All P (x ∷ xs)
 both_all {X} P x xs one all = go where
   go : (k : ℕ) (d : X) → k < length (x ∷ xs) → P (slice_index_or (x ∷ xs) k d)
   go zero d less = one
@@ -213,7 +213,7 @@ grows_front (Some said) text = (0, sym (append-nil said))
 
 -- where files are written and nothing is said
 pub performs_files : (files : List NewFile) (r : Result (Unit {0}) Refusal) (before after : DeskTold) →
-    Writes files r before after → Performs (record { said = []; files = files }) r before after
+    Writes files r before after → Finished [] files r before after
 performs_files files (Ok x) before after wrote = record {
   said = subst (λ (s : Option (List ℕ)). Grows before.said s (λ old new. new ≡ old ++ [])) (sym (ap (λ (desk : DeskTold). desk.said) wrote)) (grows_none before.said);
   room = λ steady. omega (arith, ap (λ (desk : DeskTold). desk.room) wrote);

@@ -1,14 +1,18 @@
 -- What a call answers, against what its command comes to.
-use Rattle.std.specs.Prelude.{◌≡◌, ◌≢◌, ◌≤◌, ◌+◌, ℕ, List, [], ◌∷◌, ◌++◌, length, take, Bool, IsTrue, All, Option, Some, None, IsSomeAnd, Result, Ok, Err, IsOkAnd}
+use Rattle.std.specs.Prelude.{◌≡◌, ◌≢◌, ◌≤◌, ◌<◌, ◌+◌, ℕ, List, [], ◌∷◌, ◌++◌, length, take, Bool, false, IsTrue, All, Option, Some, None, IsSomeAnd, Result, Ok, Err, IsOkAnd}
+use Rattle.mage_base.specs.declared.failure.Damage.{Damage}
 use Rattle.mage_base.specs.Desk.{DeskTold, Files, files_with}
 use Rattle.mage_base.specs.Faults.{Rose}
-use Rattle.mage_words.specs.Words.{Request, Solo, Stats, Deal, Plan, Check, Upgrade}
+use Rattle.mage_base.specs.Store.{StoreTold}
+use Rattle.mage_source_runs.specs.Moves.{Moves}
+use Rattle.mage_words.specs.Words.{Request, Solo, Stats, Deal, Plan, Check, Upgrade, Gen}
 use Rattle.mage_planner.specs.declared.refusal.Refusal.{Refusal}
 use Rattle.mage_planner.specs.declared.refusal.Refusal.TheVariants as refusal
 use Rattle.mage_planner.specs.declared.status.Status.{Status}
 use Rattle.mage_planner.specs.declared.status.Status.TheVariants as status
 use Rattle.mage_planner.specs.Lines.{status_of, line_of}
 use Rattle.mage_planner.specs.Outcome.{Done, NewFile}
+use Rattle.mage_planner.specs.Stores.{GivesBack, HaveMoved, HasBroken, HasDamaged, IsRight}
 use Rattle.mage_planner.specs.Warned.{Grows, WarnsLine}
 
 -- ---- what a command does
@@ -18,23 +22,42 @@ abbrev pub with_files : Option Files → List NewFile → Option Files
 with_files files [] = files
 with_files files (first ∷ others) = with_files (files_with files first.name first.bytes) others
 
--- It says its text and writes its files. Of all else that the desk tells nothing changes, but that a
--- steady desk has that much less room for what is said.
-pub record Does (done : Done) (before after : DeskTold) : Type 0 where
-  pub said : Grows before.said after.said (λ old new. new ≡ old ++ done.said)
-  pub room : IsTrue before.steady → after.room + length done.said ≡ before.room
+-- It says a text and writes files. Of all else that the desk tells nothing changes, but that a steady desk has that much less
+-- room for what is said.
+pub record Finishes (text : List ℕ) (written : List NewFile) (before after : DeskTold) : Type 0 where
+  pub said : Grows before.said after.said (λ old new. new ≡ old ++ text)
+  pub room : IsTrue before.steady → after.room + length text ≡ before.room
   pub rest : after ≡ record before {
-    files = with_files before.files done.files;
+    files = with_files before.files written;
     said = after.said;
     room = after.room;
   }
 
+-- It asks for a store for each worker, moves their pages as often as it has to, and gives them back; then it says its text, which
+-- is another one where the stores deceived, and writes its files.
+pub record Does (done : Done) (before after : DeskTold) : Type 0 where
+  pub shelves : List (List StoreTold)
+  pub moved : HaveMoved done.moves shelves
+  pub between : DeskTold
+  pub given : GivesBack shelves before between
+  pub text : List ℕ
+  pub right : IsRight before shelves done.said text
+  pub finishes : Finishes text done.files between after
+
 -- ---- what a refusal leaves
 
--- the files that a command writes, if it isn't refused
+-- what a command says, writes and moves, if it isn't refused
+abbrev pub text_of : Result Done Refusal → List ℕ
+text_of (Ok done) = done.said
+text_of (Err why) = []
+
 abbrev pub files_of : Result Done Refusal → List NewFile
 files_of (Ok done) = done.files
 files_of (Err why) = []
+
+abbrev pub moves_in : Result Done Refusal → List Moves
+moves_in (Ok done) = done.moves
+moves_in (Err why) = []
 
 -- each file stays that has none of these names
 abbrev pub OthersStay : List NewFile → (before after : Option Files) → Type 0
@@ -43,15 +66,10 @@ OthersStay written (Some old) after =
     IsSomeAnd after (λ new.
     (name : List ℕ) → All (λ file. file.name ≢ name) written → new name ≡ old name)
 
--- a front of the outcome's text is said, and nothing where it has none
-abbrev pub SaysFront : Result Done Refusal → (old new : List ℕ) → Type 0
-SaysFront (Ok done) old new = (n : ℕ) × (new ≡ old ++ take n done.said)
-SaysFront (Err why) old new = new ≡ old
-
--- what a fault of the desk leaves: it may come while a command writes its files and says its text
-pub record Fails (outcome : Result Done Refusal) (before after : DeskTold) : Type 0 where
-  pub said : Grows before.said after.said (SaysFront outcome)
-  pub files : OthersStay (files_of outcome) before.files after.files
+-- a fault of the desk while this was said and these files were written: a front of the text is said
+pub record BreaksOff (text : List ℕ) (written : List NewFile) (before after : DeskTold) : Type 0 where
+  pub said : Grows before.said after.said (λ old new. (n : ℕ) × (new ≡ old ++ take n text))
+  pub files : OthersStay written before.files after.files
   pub rises : before.faults ≤ after.faults
   pub rose : Rose before.faults after.faults
   pub rest : after ≡ record before {
@@ -61,15 +79,51 @@ pub record Fails (outcome : Result Done Refusal) (before after : DeskTold) : Typ
     room = after.room;
   }
 
--- what want of memory leaves: it may come while a command writes its files
-pub record Stops (outcome : Result Done Refusal) (before after : DeskTold) : Type 0 where
-  pub files : OthersStay (files_of outcome) before.files after.files
+-- want of memory while these files were written
+pub record Ceases (written : List NewFile) (before after : DeskTold) : Type 0 where
+  pub files : OthersStay written before.files after.files
   pub rest : after ≡ record before { files = after.files }
+
+-- Stores of the first workers, of no more than the command asks for, were lent and are given back.
+pub record Returns (outcome : Result Done Refusal) (shelves : List (List StoreTold)) (before after : DeskTold) : Type 0 where
+  pub few : length shelves ≤ length (moves_in outcome)
+  pub given : GivesBack shelves before after
+
+-- What a fault of the desk leaves: it may come while stores are asked for, and while a command writes its files and says its text.
+pub record Fails (outcome : Result Done Refusal) (before after : DeskTold) : Type 0 where
+  pub shelves : List (List StoreTold)
+  pub between : DeskTold
+  pub returns : Returns outcome shelves before between
+  pub text : List ℕ
+  pub right : IsRight before shelves (text_of outcome) text
+  pub breaks : BreaksOff text (files_of outcome) between after
+
+-- what want of memory leaves: it may come whenever a command runs, and while it writes its files
+pub record Stops (outcome : Result Done Refusal) (before after : DeskTold) : Type 0 where
+  pub shelves : List (List StoreTold)
+  pub between : DeskTold
+  pub returns : Returns outcome shelves before between
+  pub ceases : Ceases (files_of outcome) between after
+
+-- what a store's fault leaves: nothing is said, and no file is written
+pub record Breaks (outcome : Result Done Refusal) (worker : ℕ) (before after : DeskTold) : Type 0 where
+  pub shelves : List (List StoreTold)
+  pub returns : Returns outcome shelves before after
+  pub broken : HasBroken shelves worker
+  pub rose : Rose (before.returned worker).faults (after.returned worker).faults
+
+-- what a damaged page leaves: nothing is said, and no file is written
+pub record Damages (outcome : Result Done Refusal) (worker : ℕ) (damage : Damage) (before after : DeskTold) : Type 0 where
+  pub shelves : List (List StoreTold)
+  pub returns : Returns outcome shelves before after
+  pub damaged : HasDamaged before shelves worker damage
 
 -- what a refusal leaves before its line is warned; any other leaves all that the desk tells
 abbrev pub Leaves : Result Done Refusal → Refusal → (before after : DeskTold) → Type 0
 Leaves outcome refusal.Desk before after = Fails outcome before after
 Leaves outcome refusal.Memory before after = Stops outcome before after
+Leaves outcome (refusal.Store worker) before after = Breaks outcome worker before after
+Leaves outcome (refusal.Damaged worker damage) before after = Damages outcome worker damage before after
 Leaves outcome other before after = after ≡ before
 
 -- ---- the answer
@@ -82,10 +136,13 @@ refusal_of (Err other) = Some other
 
 -- A refusal is the one that the outcome is, but that want of memory may come in its place. The desk's fault
 -- comes where a file is absent, or where the command could not be done to its end; where the desk isn't
--- steady it may come in place of any refusal too.
+-- steady it may come in place of any refusal too. A store's fault and a damaged page come only where nothing is refused, of a worker
+-- for whom a store is asked.
 abbrev pub ComesFrom : (steady : Bool) → Result Done Refusal → Refusal → Type 0
 ComesFrom steady outcome refusal.Desk = IsTrue steady → refusal_of outcome ≡ None
 ComesFrom steady outcome refusal.Memory = Unit {0}
+ComesFrom steady outcome (refusal.Store worker) = worker < length (moves_in outcome)
+ComesFrom steady outcome (refusal.Damaged worker damage) = worker < length (moves_in outcome)
 ComesFrom steady outcome other = outcome ≡ Err other
 
 -- the work before a line is warned: the command is done, or refused
@@ -119,10 +176,12 @@ AnswerCounted before now status.Ok = now ≡ before
 AnswerCounted before now status.Desk = (before ≤ now) × Rose before now
 AnswerCounted before now other = before ≤ now
 
-abbrev pub IsOkOrMemory : Status → Type 0
-IsOkOrMemory status.Ok = Unit {0}
-IsOkOrMemory status.Memory = Unit {0}
-IsOkOrMemory other = ⊥
+-- what is answered of a command that isn't refused, where no count of faults rose
+abbrev pub IsComplete : (tells_pages : Bool) → Status → Type 0
+IsComplete tells_pages status.Ok = Unit {0}
+IsComplete tells_pages status.Memory = Unit {0}
+IsComplete tells_pages status.Damaged = tells_pages ≡ false
+IsComplete tells_pages other = ⊥
 
 -- what words may be answered that ask for nothing
 abbrev pub IsWordsOrMemory : Status → Type 0
@@ -139,6 +198,18 @@ WritesNoFile (Some (Deal deal)) = ⊥
 WritesNoFile (Some (Plan plan)) = ⊥
 WritesNoFile (Some (Check check)) = Unit {0}
 WritesNoFile (Some (Upgrade upgrade)) = ⊥
+WritesNoFile (Some (Gen gen)) = ⊥
+
+-- the words don't ask for a command that asks for stores
+abbrev pub RunsNothing : Option Request → Type 0
+RunsNothing None = Unit {0}
+RunsNothing (Some (Solo solo)) = ⊥
+RunsNothing (Some (Stats stats)) = Unit {0}
+RunsNothing (Some (Deal deal)) = Unit {0}
+RunsNothing (Some (Plan plan)) = Unit {0}
+RunsNothing (Some (Check check)) = Unit {0}
+RunsNothing (Some (Upgrade upgrade)) = Unit {0}
+RunsNothing (Some (Gen gen)) = ⊥
 
 -- ---- when the desk doesn't fail
 
@@ -146,3 +217,11 @@ WritesNoFile (Some (Upgrade upgrade)) = ⊥
 abbrev pub HasRoom : DeskTold → Result Done Refusal → Type 0
 HasRoom desk (Ok done) = length done.said ≤ desk.room
 HasRoom desk (Err other) = length (line_of other) ≤ desk.warn_room
+
+-- where stores are asked for they tell their pages
+abbrev pub TellsStores : DeskTold → Result Done Refusal → Type 0
+TellsStores desk outcome = moves_in outcome ≢ [] → IsTrue desk.stores_tell_pages
+
+-- no count of faults of the stores that were given back rose
+abbrev pub StoresAreSound : (before after : DeskTold) → Type 0
+StoresAreSound before after = (worker : ℕ) → (after.returned worker).faults ≤ (before.returned worker).faults

@@ -2,10 +2,12 @@ pub mod Codes
 pub mod Lines
 pub mod SummaryText
 pub mod Outcome
+pub mod Stores
 pub mod Work
 pub mod Steps
 pub mod Warned
 pub mod Answer
 pub mod Writing
+pub mod Ran
 pub mod Upgrading
 pub mod Checking

@@ -2,6 +2,7 @@
 use Rattle.std.specs.Prelude.{ℕ, List, [], ◌∷◌, codes}
 use Rattle.std.specs.List.{concat}
 use Rattle.std.specs.Fmt.{decimal}
+use Rattle.hex.specs.Hex.{encode_lower}
 use Rattle.mage_instr.specs.declared.replaced.Tight.{Tight}
 use Rattle.mage_instr.specs.declared.replaced.Tight.TheVariants as tight
 use Rattle.mage_lex.specs.declared.fault.LangKind.{LangKind}
@@ -25,6 +26,8 @@ status_of (refusal.InputTooLong party) = status.InputText
 status_of refusal.InputSeed = status.InputText
 status_of (refusal.MemoryProgram fault) = status.MemoryProgram
 status_of (refusal.CheckNo worker directive) = status.CheckNo
+status_of (refusal.Store worker) = status.Store
+status_of (refusal.Damaged worker damage) = status.Damaged
 status_of refusal.Desk = status.Desk
 status_of refusal.Memory = status.Memory
 
@@ -89,6 +92,10 @@ line_parts (refusal.InputTooLong party) = codes "mage: input " ∷ party_name pa
 line_parts refusal.InputSeed = codes "mage: input seed\n" ∷ []
 line_parts (refusal.MemoryProgram fault) = codes "mage: memory program: " ∷ program_parts fault
 line_parts (refusal.CheckNo worker directive) = codes "mage: check: " ∷ directive_parts worker directive
+line_parts (refusal.Store worker) = codes "mage: store fault: worker " ∷ decimal worker ∷ codes "\n" ∷ []
+line_parts (refusal.Damaged worker damage) =
+    codes "mage: damaged: worker " ∷ decimal worker ∷ codes " page " ∷ decimal damage.page
+    ∷ codes " kept " ∷ encode_lower damage.kept ∷ codes " found " ∷ encode_lower damage.found ∷ codes "\n" ∷ []
 line_parts refusal.Desk = codes "mage: desk fault\n" ∷ []
 line_parts refusal.Memory = codes "mage: no memory\n" ∷ []
 

@@ -1,5 +1,5 @@
 -- What a command comes to, in the order of work.
-use Rattle.std.specs.Prelude.{ℕ, zero, suc, ◌+◌, ◌==◌, List, [], ◌∷◌, length, Option, Some, None, Result, Ok, Err, ok_or, nat_lt, codes, if◌then◌else◌}
+use Rattle.std.specs.Prelude.{ℕ, Bool, true, false, zero, suc, ◌+◌, ◌==◌, List, [], ◌∷◌, length, Option, Some, None, Result, Ok, Err, ok_or, nat_lt, codes, if◌then◌else◌}
 use Rattle.std.specs.List.{concat}
 use Rattle.std.specs.Fmt.{decimal}
 use Rattle.mage_base.specs.Desk.{Files}
@@ -38,11 +38,12 @@ use Rattle.mage_pipe.specs.declared.stats.WorkerStats.{WorkerStats}
 use Rattle.mage_pipe.specs.Loading.{loaded_of}
 use Rattle.mage_pipe.specs.MemoryProgram.{memory_program_of}
 use Rattle.mage_pipe.specs.Summary.{stats_of}
+use Rattle.mage_source_runs.specs.Moves.{Moves, moves_of}
 use Rattle.mage_planner.specs.declared.refusal.Refusal.{Refusal}
 use Rattle.mage_planner.specs.declared.refusal.Refusal.TheVariants as refusal
 use Rattle.mage_planner.specs.declared.refusal.ProgramFault.TheVariants as wrong
 use Rattle.mage_planner.specs.SummaryText.{summary_text}
-use Rattle.mage_words.specs.Words.{Request, Solo, Stats, Deal, Plan, Check, Upgrade, SoloRequest, StatsRequest, DealRequest, PlanRequest, CheckRequest, UpgradeRequest, request_of}
+use Rattle.mage_words.specs.Words.{Driver, Plain, Garble, Eval, Request, Solo, Stats, Deal, Plan, Check, Upgrade, Gen, SoloRequest, StatsRequest, DealRequest, PlanRequest, CheckRequest, UpgradeRequest, request_of}
 
 -- a file as a fetch with a limit finds it
 pub data File : Type 0 where
@@ -82,12 +83,23 @@ SEED_BYTES = 32
 abbrev pub INPUT_LIMIT : ℕ
 INPUT_LIMIT = 67108864
 
+-- the files of a driver's input texts
+abbrev pub garbler_of : Driver → Option (List ℕ)
+garbler_of (Plain garbler evaluator) = garbler
+garbler_of (Garble garbler seed stream) = garbler
+garbler_of (Eval stream labels) = None
+
+abbrev pub evaluator_of : Driver → Option (List ℕ)
+evaluator_of (Plain garbler evaluator) = evaluator
+evaluator_of (Garble garbler seed stream) = None
+evaluator_of (Eval stream labels) = None
+
 -- A source is no longer than a text may be, nor a memory program than its file. What a command doesn't read counts as absent.
 abbrev pub found_in : Files → Request → Found
 found_in files (Solo solo) = record {
   source = file_at files solo.source MOST_BYTES;
-  garbler = file_named files solo.garbler INPUT_LIMIT;
-  evaluator = file_named files solo.evaluator INPUT_LIMIT;
+  garbler = file_named files (garbler_of solo.driver) INPUT_LIMIT;
+  evaluator = file_named files (evaluator_of solo.driver) INPUT_LIMIT;
   seed = Absent;
   program = Absent;
 }
@@ -105,6 +117,7 @@ found_in files (Check check) = record nothing_found {
   program = file_at files check.program most_bytes;
 }
 found_in files (Upgrade upgrade) = record nothing_found { program = file_at files upgrade.program most_first_bytes }
+found_in files (Gen gen) = nothing_found
 
 -- where the words ask for nothing, no file is read
 abbrev pub found_for : Files → Option Request → Found
@@ -122,10 +135,16 @@ pub record Done : Type 0 where
   pub said : List ℕ
   -- the files that it writes, in this order
   pub files : List NewFile
+  -- how often it reads and writes the store of each worker; none where it asks for no store
+  pub moves : List Moves
 
--- it says a text, and writes no file
+-- it says a text, writes no file and asks for no store
 abbrev pub says : List ℕ → Done
-says text = record { said = text; files = [] }
+says text = record { said = text; files = []; moves = [] }
+
+-- it runs a memory program that moves so many pages, and says a text
+abbrev pub runs : List ℕ → List Moves → Done
+runs text moves = record { said = text; files = []; moves = moves }
 
 -- the bytes of a file, or what its length or its absence is answered with
 abbrev pub bytes_or : Refusal → File → Result (List ℕ) Refusal
@@ -166,17 +185,9 @@ source_of file = do
 abbrev pub costs_of : Limits → Loaded → Result (List WorkerStats) Refusal
 costs_of limits loaded = or_limits (stats_of limits loaded.program.workers)
 
--- a program that can be planned within the limits
-unfoldable pub if_planned : Limits → Loaded → Result Loaded Refusal
-if_planned limits loaded = do
-  costs ← costs_of limits loaded
-  Ok loaded
-
--- the same of a source's file
-unfoldable pub planned_of : Limits → File → Result Loaded Refusal
-planned_of limits file = do
-  loaded ← source_of file
-  if_planned limits loaded
+-- the memory program that the passes make of it
+abbrev pub program_for : Limits → Loaded → Result MemProgram Refusal
+program_for limits loaded = or_limits (memory_program_of limits loaded.program.workers)
 
 abbrev pub or_line : Party → Result (List (List ℕ)) ℕ → Result (List (List ℕ)) Refusal
 or_line whose (Ok numbers) = Ok numbers
@@ -192,13 +203,14 @@ numbers_of whose loaded file = do
 abbrev pub said_of : Loaded → Given → List ℕ
 said_of loaded given = text_of (value_of loaded.source.workers loaded.source.body given)
 
--- what `solo` does: it says the outputs of the source on the inputs
+-- what `solo` does: it runs the memory program of the source on the inputs, and says what the source means on them
 unfoldable pub solo_outcome : Found → SoloRequest → Result Done Refusal
 solo_outcome found solo = do
-  loaded ← planned_of solo.limits found.source
+  loaded ← source_of found.source
+  program ← program_for solo.limits loaded
   garbler ← numbers_of party.Garbler loaded found.garbler
   evaluator ← numbers_of party.Evaluator loaded found.evaluator
-  Ok (says (said_of loaded (record { garbler = garbler; evaluator = evaluator })))
+  Ok (runs (said_of loaded (record { garbler = garbler; evaluator = evaluator })) (moves_of program))
 
 -- what `stats` does: it says the summary
 unfoldable pub stats_outcome : Found → StatsRequest → Result Done Refusal
@@ -239,6 +251,7 @@ abbrev pub deals : (stem : List ℕ) → Program → (seed : List ℕ) → (eval
 deals stem program seed evaluator = record {
   said = [];
   files = label_files stem program seed evaluator 0 (length program.workers);
+  moves = [];
 }
 
 -- what `deal` does: it writes the label files of the evaluator's numbers
@@ -256,13 +269,14 @@ abbrev pub plans : (out : List ℕ) → MemProgram → List WorkerStats → Done
 plans out program costs = record {
   said = summary_text costs;
   files = record { name = out; bytes = spelling_of program } ∷ [];
+  moves = [];
 }
 
 -- what `plan` does: it writes the memory program that the passes make of the source
 unfoldable pub plan_outcome : Found → PlanRequest → Result Done Refusal
 plan_outcome found plan = do
   loaded ← source_of found.source
-  program ← or_limits (memory_program_of plan.limits loaded.program.workers)
+  program ← program_for plan.limits loaded
   costs ← costs_of plan.limits loaded
   Ok (plans plan.out program costs)
 
@@ -335,6 +349,7 @@ abbrev pub upgrades : (out : List ℕ) → MemProgram → Done
 upgrades out program = record {
   said = [];
   files = record { name = out; bytes = spelling_of program } ∷ [];
+  moves = [];
 }
 
 -- what `upgrade` does: it writes a memory program of the first version with store pages
@@ -344,6 +359,27 @@ upgrade_outcome found upgrade = do
   renamed ← renamed_of program
   Ok (upgrades upgrade.out renamed)
 
+-- ---- the words
+
+abbrev pub is_plain : Driver → Bool
+is_plain (Plain garbler evaluator) = true
+is_plain (Garble garbler seed stream) = false
+is_plain (Eval stream labels) = false
+
+-- whether a command is built: `gen`, and the other drivers of `solo`, are still to come
+abbrev pub is_built : Request → Bool
+is_built (Solo solo) = is_plain solo.driver
+is_built (Gen gen) = false
+is_built other = true
+
+abbrev pub if_built : Option Request → Option Request
+if_built None = None
+if_built (Some request) = if is_built request then Some request else None
+
+-- what words ask for, of what is built
+abbrev pub asked_of : List (List ℕ) → Option Request
+asked_of words = if_built (request_of words)
+
 abbrev pub outcome_for : Found → Request → Result Done Refusal
 outcome_for found (Solo solo) = solo_outcome found solo
 outcome_for found (Stats stats) = stats_outcome found stats
@@ -351,13 +387,14 @@ outcome_for found (Deal deal) = deal_outcome found deal
 outcome_for found (Plan plan) = plan_outcome found plan
 outcome_for found (Check check) = check_outcome found check
 outcome_for found (Upgrade upgrade) = upgrade_outcome found upgrade
+outcome_for found (Gen gen) = Err refusal.Words
 
 -- what a command does, or the first refusal in the order of work; an absent file stops it too
 unfoldable pub outcome_of : Found → List (List ℕ) → Result Done Refusal
 outcome_of found words = do
-  request ← ok_or (request_of words) refusal.Words
+  request ← ok_or (asked_of words) refusal.Words
   outcome_for found request
 
 -- what a command comes to on these files
 abbrev pub outcome_in : Files → List (List ℕ) → Result Done Refusal
-outcome_in files words = outcome_of (found_for files (request_of words)) words
+outcome_in files words = outcome_of (found_for files (asked_of words)) words

@@ -26,9 +26,11 @@ abbrev pub StepCounted : {T : Type 0} → (before now : ℕ) → Result T Refusa
 StepCounted before now (Ok x) = now ≡ before
 StepCounted before now (Err other) = RefusalCounted before now other
 
--- a refusal other than the desk's fault
+-- a refusal other than a fault of the desk or of its stores
 abbrev pub IsNotDesk : Refusal → Type 0
 IsNotDesk refusal.Desk = ⊥
+IsNotDesk (refusal.Store worker) = ⊥
+IsNotDesk (refusal.Damaged worker damage) = ⊥
 IsNotDesk other = Unit {0}
 
 abbrev pub IsNoDeskFault : {T : Type 0} → Result T Refusal → Type 0

@@ -1,12 +1,27 @@
 -- What the code's work does.
-use Rattle.std.specs.Prelude.{◌≤◌, ℕ, [], ◌∷◌, length}
+use Rattle.std.specs.Prelude.{◌≡◌, ◌≤◌, ℕ, List, [], ◌∷◌, length, Bool, Result, Ok, Err}
+use Rattle.mage_instr.specs.declared.directive.MemProgram.{MemProgram}
+use Rattle.mage_instr.specs.declared.party.Party.TheVariants as party
+use Rattle.mage_instr.specs.declared.replaced.Limits.{Limits}
+use Rattle.mage_instr.specs.Inputs.{input_widths_of}
+use Rattle.mage_instr.specs.Limits.{AreInRange}
 use Rattle.mage_instr.specs.Opcodes.{most_workers}
+use Rattle.mage_texts.specs.InputText.{FitWidths}
 use Rattle.mage_texts.specs.Lists.{lists_of}
+use Rattle.mage_verify.specs.Parts.{parts_of}
+use Rattle.mage_verify.specs.Runs.{AreVerified}
+use Rattle.mage_pipe.specs.declared.loaded.Loaded.{Loaded}
+use Rattle.mage_pipe.specs.Loading.{loaded_of}
+use Rattle.mage_pipe.specs.MemoryProgram.{memory_program_of}
+use Rattle.mage_source_runs.specs.Moves.{moves_of}
+use Rattle.mage_planner.specs.declared.refusal.Refusal.{Refusal}
 use Rattle.mage_planner.specs.declared.work.Work as code
 use Rattle.mage_planner.specs.declared.work.Work.TheVariants as work
 use Rattle.mage_planner.specs.declared.work.Dealing.{Dealing}
+use Rattle.mage_planner.specs.declared.work.Running.{Running}
 use Rattle.mage_planner.specs.declared.work.Writing.{Writing}
-use Rattle.mage_planner.specs.Outcome.{Done, NewFile, says, deals, label_file}
+use Rattle.mage_planner.specs.Outcome.{Done, NewFile, says, runs, said_of, deals, label_file}
+use Rattle.mage_planner.specs.Steps.{Refuses}
 
 -- what is dealt
 abbrev pub dealt_by : Dealing → Done
@@ -21,15 +36,45 @@ abbrev pub written_by : Writing → Done
 written_by writing = record {
   said = writing.text.items;
   files = record { name = writing.name.now; bytes = writing.bytes.items } ∷ [];
+  moves = [];
 }
 
-abbrev pub done_of : code.Work → Done
-done_of (work.Say text) = says text.items
-done_of (work.Deal dealing) = dealt_by dealing
-done_of (work.Write writing) = written_by writing
+-- A run does this: its parts are those of a source's memory program, its inputs are as wide as the source asks for, and what is to
+-- be said is what the source means on them.
+pub record IsRunOf (running : Running) (done : Done) : Type 0 where
+  pub limits : Limits
+  pub text : List ℕ
+  pub loaded : Loaded
+  pub plan : MemProgram
+  pub in_range : AreInRange limits
+  pub loads : loaded_of text ≡ Ok loaded
+  pub planned : memory_program_of limits loaded.program.workers ≡ Ok plan
+  pub parts : running.parts.items ≡ parts_of plan
+  pub garbler : FitWidths (input_widths_of party.Garbler loaded.program) (lists_of running.garbler.items)
+  pub evaluator : FitWidths (input_widths_of party.Evaluator loaded.program) (lists_of running.evaluator.items)
+  pub is : done ≡ runs (said_of loaded (record { garbler = lists_of running.garbler.items; evaluator = lists_of running.evaluator.items })) (moves_of plan)
 
--- what is dealt is dealt to few workers
-abbrev pub HasFewWorkers : code.Work → Type 0
-HasFewWorkers (work.Say text) = Unit {0}
-HasFewWorkers (work.Deal dealing) = length dealing.program.workers ≤ most_workers
-HasFewWorkers (work.Write writing) = Unit {0}
+-- the work does this
+abbrev pub IsWorkOf : code.Work → Done → Type 0
+IsWorkOf (work.Say text) done = done ≡ says text.items
+IsWorkOf (work.Deal dealing) done = done ≡ dealt_by dealing
+IsWorkOf (work.Write writing) done = done ≡ written_by writing
+IsWorkOf (work.Run running) done = IsRunOf running done
+
+-- what is found out does what a command comes to, or the command is refused
+abbrev pub GivesSo : {X : Type 0} → (steady : Bool) → (X → Done → Type 0) → Result X Refusal → Result Done Refusal → Type 0
+GivesSo steady Is (Ok x) outcome = (done : Done) × Is x done × (outcome ≡ Ok done)
+GivesSo steady Is (Err other) outcome = Refuses steady other outcome
+
+-- what has no fault that keeps it from being run
+pub record CanBeRun (running : Running) : Type 0 where
+  pub verified : AreVerified running.parts.items
+  pub garbler : length running.garbler.items ≡ length running.parts.items
+  pub evaluator : length running.evaluator.items ≡ length running.parts.items
+
+-- what is dealt is dealt to few workers, and what is run can be run
+abbrev pub CanBeDone : code.Work → Type 0
+CanBeDone (work.Say text) = Unit {0}
+CanBeDone (work.Deal dealing) = length dealing.program.workers ≤ most_workers
+CanBeDone (work.Write writing) = Unit {0}
+CanBeDone (work.Run running) = CanBeRun running

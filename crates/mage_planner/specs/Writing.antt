@@ -1,11 +1,11 @@
--- What writing files leaves.
-use Rattle.std.specs.Prelude.{◌≡◌, ◌≤◌, ℕ, List, [], Result, Ok, Err}
+-- What writing files and doing a command leaves.
+use Rattle.std.specs.Prelude.{◌≡◌, ◌≤◌, ◌<◌, ℕ, List, [], length, Result, Ok, Err}
 use Rattle.mage_base.specs.Desk.{DeskTold, files_with}
 use Rattle.mage_base.specs.Faults.{Rose}
 use Rattle.mage_planner.specs.declared.refusal.Refusal.{Refusal}
 use Rattle.mage_planner.specs.declared.refusal.Refusal.TheVariants as refusal
 use Rattle.mage_planner.specs.Outcome.{Done, NewFile}
-use Rattle.mage_planner.specs.Answer.{Does, Leaves, OthersStay, with_files}
+use Rattle.mage_planner.specs.Answer.{Finishes, BreaksOff, Ceases, Does, Fails, Stops, Breaks, Damages, OthersStay, with_files}
 
 -- what opening a file leaves that is to be written
 abbrev pub Opens : {T : Type 0} → (name : List ℕ) → Result T Refusal → (before after : DeskTold) → Type 0
@@ -24,28 +24,37 @@ Fills name bytes (Err refusal.Desk) before after =
     × (after ≡ record before { files = files_with before.files name some; faults = after.faults })
 Fills name bytes (Err other) before after = ⊥
 
--- a fault of the desk while these files were written: every other file stays
-pub record Breaks (written : List NewFile) (before after : DeskTold) : Type 0 where
+-- a fault of the desk while these files were written, each other file stays
+pub record BreaksFiles (written : List NewFile) (before after : DeskTold) : Type 0 where
   pub files : OthersStay written before.files after.files
   pub rises : before.faults ≤ after.faults
   pub rose : Rose before.faults after.faults
   pub rest : after ≡ record before { files = after.files; faults = after.faults }
 
--- want of memory while they were written
-pub record Ceases (written : List NewFile) (before after : DeskTold) : Type 0 where
-  pub files : OthersStay written before.files after.files
-  pub rest : after ≡ record before { files = after.files }
-
 -- all of the files are written, in order, or one of these two stopped it
 abbrev pub Writes : {T : Type 0} → List NewFile → Result T Refusal → (before after : DeskTold) → Type 0
 Writes written (Ok x) before after = after ≡ record before { files = with_files before.files written }
-Writes written (Err refusal.Desk) before after = Breaks written before after
+Writes written (Err refusal.Desk) before after = BreaksFiles written before after
 Writes written (Err refusal.Memory) before after = Ceases written before after
 Writes written (Err other) before after = ⊥
 
--- what is to be done is done, or stopped by the desk's fault or want of memory
+-- the text is said, and the files are written, or one of these two stopped it
+abbrev pub Finished : {T : Type 0} → (text : List ℕ) → List NewFile → Result T Refusal → (before after : DeskTold) → Type 0
+Finished text written (Ok x) before after = Finishes text written before after
+Finished text written (Err refusal.Desk) before after = BreaksOff text written before after
+Finished text written (Err refusal.Memory) before after = Ceases written before after
+Finished text written (Err other) before after = ⊥
+
+-- what may stop a command that is to do this, and what that leaves
+abbrev pub Interrupts : Done → Refusal → (before after : DeskTold) → Type 0
+Interrupts done refusal.Desk before after = Fails (Ok done) before after
+Interrupts done refusal.Memory before after = Stops (Ok done) before after
+Interrupts done (refusal.Store worker) before after = (worker < length done.moves) × Breaks (Ok done) worker before after
+Interrupts done (refusal.Damaged worker damage) before after =
+    (worker < length done.moves) × Damages (Ok done) worker damage before after
+Interrupts done other before after = ⊥
+
+-- what is to be done is done, or stopped
 abbrev pub Performs : {T : Type 0} → Done → Result T Refusal → (before after : DeskTold) → Type 0
 Performs done (Ok x) before after = Does done before after
-Performs done (Err refusal.Desk) before after = Leaves (Ok done) refusal.Desk before after
-Performs done (Err refusal.Memory) before after = Leaves (Ok done) refusal.Memory before after
-Performs done (Err other) before after = ⊥
+Performs done (Err why) before after = Interrupts done why before after

@@ -28,6 +28,8 @@ impl Refusal {
             }
             Refusal::MemoryProgram { .. } => Status::MemoryProgram,
             Refusal::CheckNo { .. } => Status::CheckNo,
+            Refusal::Store { .. } => Status::Store,
+            Refusal::Damaged { .. } => Status::Damaged,
             Refusal::Desk => Status::Desk,
             Refusal::Memory => Status::Memory,
         }

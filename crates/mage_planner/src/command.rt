@@ -1,11 +1,11 @@
 // What a command does, found out in the order of work.
-ghost use Rattle.std.specs.Prelude.{◌≡◌, ◌≤◌, ℕ, Bool, Result, length, ok_or, true, IfSome, IfOk};
+ghost use Rattle.std.specs.Prelude.{◌≡◌, ◌≤◌, ℕ, Bool, Result, Some, length, ok_or, true, IfSome, IfOk};
 ghost use Rattle.mage_instr.specs.Opcodes.{most_workers};
-ghost use Rattle.mage_words.specs.Words.{LimitsAreInRange, bytes_of_words, request_of};
-ghost use Rattle.mage_words.specs.Answers.{request_view};
-ghost use Rattle.mage_planner.specs.Outcome.{Done, Found, found_in, says, outcome_for, outcome_of, outcome_in};
+ghost use Rattle.mage_words.specs.Words.{LimitsAreInRange, bytes_of_words};
+ghost use Rattle.mage_words.specs.Answers.{driver_view, request_view};
+ghost use Rattle.mage_planner.specs.Outcome.{Done, Found, asked_of, found_in, if_built, is_built, is_plain, says, outcome_for, outcome_of, outcome_in};
 ghost use Rattle.mage_planner.specs.Steps.{Gives, StepCounted, IsNoDeskFault};
-ghost use Rattle.mage_planner.specs.Work.{HasFewWorkers, dealt_by, done_of, written_by};
+ghost use Rattle.mage_planner.specs.Work.{CanBeDone, CanBeRun, GivesSo, IsRunOf, IsWorkOf, dealt_by, written_by};
 
 use crate::Refusal;
 use crate::check::check;
@@ -14,21 +14,63 @@ use crate::plan::plan;
 use crate::solo::solo;
 use crate::stats::stats;
 use crate::upgrade::upgrade;
-use crate::work::{Dealing, Work, Writing};
+use crate::work::{Dealing, Running, Work, Writing};
 use mage_base::Desk;
-use mage_words::{Request, WordsFault, read_words};
+use mage_words::{Driver, Request, WordsFault, read_words};
 use std::alloc::Global;
+
+// Whether `solo` is to run in plain.
+fn is_plain(driver: Driver<'_>) -> bool
+    ensures { result ≡ is_plain (driver_view driver.entry) }
+{
+    match driver {
+        Driver::Plain { .. } => true,
+        Driver::Garble { .. } => false,
+        Driver::Eval { .. } => false,
+    }
+}
+
+// Whether a command is built.
+fn is_built(request: Request<'_>) -> bool
+    ensures { result ≡ is_built (request_view request.entry) }
+{
+    match request {
+        Request::Solo(solo) => is_plain(solo.driver),
+        Request::Stats(_) => true,
+        Request::Deal(_) => true,
+        Request::Plan(_) => true,
+        Request::Check(_) => true,
+        Request::Upgrade(_) => true,
+        Request::Gen(_) => false,
+    }
+}
+
+// What is still to come is refused as bad words are.
+fn if_built(request: Request<'_>) -> Result<Request<'_>, Refusal>
+    ensures quiet { (faults : ℕ) → StepCounted faults faults result }
+    ensures no_fault { IsNoDeskFault result }
+    ensures asked { Gives true request_view result
+        (ok_or (if_built (Some (request_view request.entry))) Refusal.Words) }
+    ensures in_range { LimitsAreInRange (request_view request.entry)
+        → IfOk result (λ request. LimitsAreInRange (request_view request)) }
+{
+    if is_built(request) {
+        Ok(request)
+    } else {
+        Err(Refusal::Words)
+    }
+}
 
 // What the words ask for.
 fn asked(alloc: Global, words: &[String]) -> Result<Request<'_>, Refusal>
     ensures quiet { (faults : ℕ) → StepCounted faults faults result }
     ensures no_fault { IsNoDeskFault result }
     ensures asked { Gives true request_view result
-        (ok_or (request_of (bytes_of_words words.now)) Refusal.Words) }
+        (ok_or (asked_of (bytes_of_words words.now)) Refusal.Words) }
     ensures in_range { IfOk result (λ request. LimitsAreInRange (request_view request)) }
 {
     match read_words(alloc, words) {
-        Ok(request) => Ok(request),
+        Ok(request) => if_built(request),
         Err(WordsFault::Words) => Err(Refusal::Words),
         Err(WordsFault::Memory) => Err(Refusal::Memory),
     }
@@ -41,32 +83,33 @@ fn answer<'a, D: Desk>(
     desk: &mut D,
 ) -> Result<Work<'a>, Refusal>
     requires limits { LimitsAreInRange (request_view request) }
-    ensures told { IfSome (D.tells desk.old).files (λ files. Gives (D.tells desk.old).steady
-        done_of result
+    ensures told { IfSome (D.tells desk.old).files (λ files. GivesSo (D.tells desk.old).steady
+        IsWorkOf result
         (outcome_for (found_in files (request_view request.entry)) (request_view request.entry))) }
-    ensures some { (found : Found) × Gives true done_of result
+    ensures some { (found : Found) × GivesSo true IsWorkOf result
         (outcome_for found (request_view request.entry)) }
-    ensures few { IfOk result HasFewWorkers }
+    ensures can { IfOk result CanBeDone }
     ensures cause { StepCounted (D.tells desk.old).faults (D.tells desk.new).faults result }
     ensures rest { D.tells desk.new
         ≡ record (D.tells desk.old) { faults = (D.tells desk.new).faults } }
 {
     match request {
-        Request::Solo(request) => said(solo(alloc, request, desk)),
+        Request::Solo(request) => to_run(solo(alloc, request, desk)),
         Request::Stats(request) => said(stats(alloc, request, desk)),
         Request::Deal(request) => dealt(deal(alloc, request, desk)),
         Request::Plan(request) => written(plan(alloc, request, desk)),
         Request::Check(request) => said(check(alloc, request, desk)),
         Request::Upgrade(request) => written(upgrade(alloc, request, desk)),
+        Request::Gen(_) => Err(Refusal::Words),
     }
 }
 
 // A text is to be said.
 fn said<'a>(text: Result<Vec<u8>, Refusal>) -> Result<Work<'a>, Refusal>
     ensures gives { (steady : Bool) (outcome : Result Done Refusal)
-        → Gives steady (λ text. says text.items) text outcome → Gives steady done_of result outcome }
+        → Gives steady (λ text. says text.items) text outcome → GivesSo steady IsWorkOf result outcome }
     ensures counts { (before now : ℕ) → StepCounted before now text → StepCounted before now result }
-    ensures few { IfOk result HasFewWorkers }
+    ensures can { IfOk result CanBeDone }
 {
     match text {
         Ok(text) => Ok(Work::Say(text)),
@@ -78,10 +121,10 @@ fn said<'a>(text: Result<Vec<u8>, Refusal>) -> Result<Work<'a>, Refusal>
 fn dealt<'a>(dealing: Result<Dealing<'a>, Refusal>) -> Result<Work<'a>, Refusal>
     requires { IfOk dealing (λ dealing. length dealing.program.workers ≤ most_workers) }
     ensures gives { (steady : Bool) (outcome : Result Done Refusal)
-        → Gives steady dealt_by dealing.entry outcome → Gives steady done_of result outcome }
+        → Gives steady dealt_by dealing.entry outcome → GivesSo steady IsWorkOf result outcome }
     ensures counts { (before now : ℕ) → StepCounted before now dealing.entry
         → StepCounted before now result }
-    ensures few { IfOk result HasFewWorkers }
+    ensures can { IfOk result CanBeDone }
 {
     match dealing {
         Ok(dealing) => Ok(Work::Deal(dealing)),
@@ -92,13 +135,28 @@ fn dealt<'a>(dealing: Result<Dealing<'a>, Refusal>) -> Result<Work<'a>, Refusal>
 // A file is to be written.
 fn written<'a>(writing: Result<Writing<'a>, Refusal>) -> Result<Work<'a>, Refusal>
     ensures gives { (steady : Bool) (outcome : Result Done Refusal)
-        → Gives steady written_by writing.entry outcome → Gives steady done_of result outcome }
+        → Gives steady written_by writing.entry outcome → GivesSo steady IsWorkOf result outcome }
     ensures counts { (before now : ℕ) → StepCounted before now writing.entry
         → StepCounted before now result }
-    ensures few { IfOk result HasFewWorkers }
+    ensures can { IfOk result CanBeDone }
 {
     match writing {
         Ok(writing) => Ok(Work::Write(writing)),
+        Err(refusal) => Err(refusal),
+    }
+}
+
+// A memory program is to be run.
+fn to_run<'a>(running: Result<Running, Refusal>) -> Result<Work<'a>, Refusal>
+    requires { IfOk running CanBeRun }
+    ensures gives { (steady : Bool) (outcome : Result Done Refusal)
+        → GivesSo steady IsRunOf running outcome → GivesSo steady IsWorkOf result outcome }
+    ensures counts { (before now : ℕ) → StepCounted before now running
+        → StepCounted before now result }
+    ensures can { IfOk result CanBeDone }
+{
+    match running {
+        Ok(running) => Ok(Work::Run(running)),
         Err(refusal) => Err(refusal),
     }
 }
@@ -110,11 +168,11 @@ pub fn work<'a, D: Desk>(
     words: &'a [String],
     desk: &mut D,
 ) -> Result<Work<'a>, Refusal>
-    ensures told { IfSome (D.tells desk.old).files (λ files. Gives (D.tells desk.old).steady
-        done_of result (outcome_in files (bytes_of_words words.now))) }
-    ensures some { (found : Found) × Gives true done_of result
+    ensures told { IfSome (D.tells desk.old).files (λ files. GivesSo (D.tells desk.old).steady
+        IsWorkOf result (outcome_in files (bytes_of_words words.now))) }
+    ensures some { (found : Found) × GivesSo true IsWorkOf result
         (outcome_of found (bytes_of_words words.now)) }
-    ensures few { IfOk result HasFewWorkers }
+    ensures can { IfOk result CanBeDone }
     ensures cause { StepCounted (D.tells desk.old).faults (D.tells desk.new).faults result }
     ensures rest { D.tells desk.new
         ≡ record (D.tells desk.old) { faults = (D.tells desk.new).faults } }

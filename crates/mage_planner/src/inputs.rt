@@ -1,9 +1,9 @@
 // The input texts of a command.
-ghost use Rattle.std.specs.Prelude.{◌≡◌, ℕ, true, option_map, All, IfSome};
+ghost use Rattle.std.specs.Prelude.{◌≡◌, ℕ, true, option_map, All, IfOk, IfSome};
 ghost use Rattle.mage_instr.specs.Inputs.{input_widths_of};
 ghost use Rattle.mage_instr.specs.Sound.{IsSound};
 ghost use Rattle.mage_texts.specs.Lists.{lists_of};
-ghost use Rattle.mage_texts.specs.InputText.{inputs_of};
+ghost use Rattle.mage_texts.specs.InputText.{inputs_of, FitWidths};
 ghost use Rattle.mage_planner.specs.declared.refusal.Refusal.TheVariants as refusals;
 ghost use Rattle.mage_planner.specs.Outcome.{INPUT_LIMIT, File, file_named, bytes_or, or_line, numbers_of};
 ghost use Rattle.mage_planner.specs.Steps.{Gives, StepCounted, IsNoDeskFault};
@@ -57,6 +57,8 @@ fn numbers(
     ensures no_fault { IsNoDeskFault result }
     ensures numbers { Gives true (λ numbers. lists_of numbers.items) result
         (or_line party (inputs_of text.now (input_widths_of party program.now))) }
+    ensures fit { IfOk result (λ numbers.
+        FitWidths (input_widths_of party program.now) (lists_of numbers.items)) }
 {
     let widths = input_widths(alloc, program, party).map_err(|_| Refusal::Memory)?;
     match read_inputs(alloc, text, widths.as_slice()) {
@@ -81,6 +83,8 @@ pub fn read_numbers<D: Desk>(
         (file_named files (option_map (λ n. n.now) name.entry) INPUT_LIMIT))) }
     ensures some { (file : File) × Gives true (λ numbers. lists_of numbers.items) result
         (numbers_of party loaded.now file) }
+    ensures fit { IfOk result (λ numbers.
+        FitWidths (input_widths_of party loaded.now.program) (lists_of numbers.items)) }
     ensures cause { StepCounted (D.tells desk.old).faults (D.tells desk.new).faults result }
     ensures rest { D.tells desk.new
         ≡ record (D.tells desk.old) { faults = (D.tells desk.new).faults } }

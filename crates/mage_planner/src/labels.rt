@@ -8,7 +8,7 @@ ghost use Rattle.mage_texts.specs.Lists.{lists_of};
 ghost use Rattle.mage_planner.specs.Outcome.{NewFile, label_bytes};
 ghost use Rattle.mage_planner.specs.Steps.{IsNoDeskFault};
 ghost use Rattle.mage_planner.specs.Work.{dealt_by, file_by};
-ghost use Rattle.mage_planner.specs.Writing.{Performs, Writes};
+ghost use Rattle.mage_planner.specs.Writing.{Finished, Writes};
 
 use crate::Refusal;
 use crate::files::write_file;
@@ -85,7 +85,7 @@ pub fn deal_labels<D: Desk>(
     dealing: &Dealing<'_>,
 ) -> Result<(), Refusal>
     requires { length dealing.now.program.workers ≤ most_workers }
-    ensures performs { Performs (dealt_by dealing.now) result
+    ensures performs { Finished (dealt_by dealing.now).said (dealt_by dealing.now).files result
         (D.tells desk.old) (D.tells desk.new) }
     ensures steady { IsTrue (D.tells desk.old).steady → IsNoDeskFault result }
 {

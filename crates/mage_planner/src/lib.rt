@@ -15,6 +15,7 @@ mod plan;
 mod program_line;
 mod programs;
 mod refusal;
+mod running;
 mod solo;
 mod sources;
 mod stats;

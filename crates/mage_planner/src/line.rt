@@ -7,7 +7,7 @@ ghost use Rattle.mage_planner.specs.Lines.{kind_name, party_name, line_of};
 
 use crate::Refusal;
 use crate::program_line::{check_line, program_line};
-use mage_base::Memory;
+use mage_base::{Damage, Memory};
 use mage_instr::{Party, Tight};
 use mage_lex::LangKind;
 use std::alloc::{AllocError, Global};
@@ -116,6 +116,22 @@ fn input_line(alloc: Global, party: Party, line: u64) -> Result<String, AllocErr
     format!(in alloc; "mage: input {party} line {line}\n")
 }
 
+fn store_line(alloc: Global, worker: u16) -> Result<String, AllocError>
+    ensures { IfOk result (λ text. string_bytes text ≡ line_of (refusal.Store worker)) }
+{
+    format!(in alloc; "mage: store fault: worker {worker}\n")
+}
+
+// The line of a damaged page, with both digests in hexadecimal digits.
+fn damage_line(alloc: Global, worker: u16, damage: Damage) -> Result<String, AllocError>
+    ensures { IfOk result (λ text. string_bytes text ≡ line_of (refusal.Damaged worker damage)) }
+{
+    let page = damage.page;
+    let kept = hex::encode(alloc, damage.kept)?;
+    let found = hex::encode(alloc, damage.found)?;
+    format!(in alloc; "mage: damaged: worker {worker} page {page} kept {kept} found {found}\n")
+}
+
 /// The line that is warned of a refusal. A fault of the desk and want of memory have theirs without taking memory.
 pub fn line_of(alloc: Global, refusal: Refusal) -> Result<CowStr<'static, Global>, Memory>
     ensures line { IfOk result (λ line. cow_str_bytes line ≡ line_of refusal) }
@@ -132,6 +148,8 @@ pub fn line_of(alloc: Global, refusal: Refusal) -> Result<CowStr<'static, Global
         Refusal::InputLine { party, line } => input_line(alloc, party, line)?,
         Refusal::MemoryProgram { fault } => return program_line(alloc, fault),
         Refusal::CheckNo { worker, directive } => check_line(alloc, worker, directive)?,
+        Refusal::Store { worker } => store_line(alloc, worker)?,
+        Refusal::Damaged { worker, damage } => damage_line(alloc, worker, damage)?,
     };
     Ok(CowStr::Owned(written))
 }

@@ -1,21 +1,22 @@
 // Doing what a command comes to.
-ghost use Rattle.std.specs.Prelude.{◌≡◌, ◌≤◌, length, IsTrue};
-ghost use Rattle.mage_instr.specs.Opcodes.{most_workers};
-ghost use Rattle.mage_planner.specs.Steps.{StepCounted, IsNoDeskFault};
-ghost use Rattle.mage_planner.specs.Work.{done_of, written_by, HasFewWorkers};
-ghost use Rattle.mage_planner.specs.Outcome.{says};
-ghost use Rattle.mage_planner.specs.Writing.{Performs};
+ghost use Rattle.std.specs.Prelude.{◌≡◌, ◌≢◌, ◌≤◌, [], length, IsTrue};
+ghost use Rattle.mage_planner.specs.Answer.{StoresAreSound};
+ghost use Rattle.mage_planner.specs.Steps.{IsNoDeskFault};
+ghost use Rattle.mage_planner.specs.Work.{CanBeDone, CanBeRun, IsRunOf, IsWorkOf, written_by};
+ghost use Rattle.mage_planner.specs.Outcome.{Done};
+ghost use Rattle.mage_planner.specs.Writing.{Finished, Performs};
 
 use crate::Refusal;
 use crate::files::write_file;
 use crate::labels::deal_labels;
-use crate::work::{Work, Writing};
+use crate::running::run;
+use crate::work::{Running, Work, Writing};
 use mage_base::{Desk, Failed};
 use std::alloc::Global;
 
 // Says a text in one call.
 fn say<D: Desk>(desk: &mut D, text: &[u8]) -> Result<(), Refusal>
-    ensures performs { Performs (says text.now) result (D.tells desk.old) (D.tells desk.new) }
+    ensures performs { Finished text.now [] result (D.tells desk.old) (D.tells desk.new) }
     ensures steady { IsTrue (D.tells desk.old).steady
         → length text.now ≤ (D.tells desk.old).room → IsNoDeskFault result }
 {
@@ -27,7 +28,7 @@ fn say<D: Desk>(desk: &mut D, text: &[u8]) -> Result<(), Refusal>
 
 // Writes a file, and then says the text, where there is one.
 fn write_and_say<D: Desk>(alloc: Global, desk: &mut D, writing: &Writing<'_>) -> Result<(), Refusal>
-    ensures performs { Performs (written_by writing.now) result
+    ensures performs { Finished (written_by writing.now).said (written_by writing.now).files result
         (D.tells desk.old) (D.tells desk.new) }
     ensures steady { IsTrue (D.tells desk.old).steady
         → length writing.now.text.items ≤ (D.tells desk.old).room → IsNoDeskFault result }
@@ -39,16 +40,34 @@ fn write_and_say<D: Desk>(alloc: Global, desk: &mut D, writing: &Writing<'_>) ->
     say(desk, &writing.text)
 }
 
-/// Does what a command comes to: says its text, or writes its files.
-pub fn perform<D: Desk>(alloc: Global, desk: &mut D, work: &Work<'_>) -> Result<(), Refusal>
-    requires { HasFewWorkers work.now }
-    ensures performs { Performs (done_of work.now) result (D.tells desk.old) (D.tells desk.new) }
-    ensures steady { IsTrue (D.tells desk.old).steady
-        → length (done_of work.now).said ≤ (D.tells desk.old).room → IsNoDeskFault result }
+// Runs a memory program, and says the text of what it put out in one call.
+fn run_and_say<D: Desk>(alloc: Global, desk: &mut D, running: Running) -> Result<(), Refusal>
+    requires { CanBeRun running }
+    ensures performs { (done : Done) → IsRunOf running done
+        → Performs done result (D.tells desk.old) (D.tells desk.new) }
+    ensures steady { (done : Done) → IsRunOf running done
+        → IsTrue (D.tells desk.old).steady → IsTrue (D.tells desk.old).stores_tell_pages
+        → length done.said ≤ (D.tells desk.old).room → IsNoDeskFault result }
+    ensures sound { IsNoDeskFault result → StoresAreSound (D.tells desk.old) (D.tells desk.new) }
+{
+    let text = run(alloc, desk, running)?;
+    say(desk, &text)
+}
+
+/// Does what a command comes to: says its text, writes its files, or runs its memory program.
+pub fn perform<D: Desk>(alloc: Global, desk: &mut D, work: Work<'_>) -> Result<(), Refusal>
+    requires { CanBeDone work }
+    ensures performs { (done : Done) → IsWorkOf work.entry done
+        → Performs done result (D.tells desk.old) (D.tells desk.new) }
+    ensures steady { (done : Done) → IsWorkOf work.entry done → IsTrue (D.tells desk.old).steady
+        → (done.moves ≢ [] → IsTrue (D.tells desk.old).stores_tell_pages)
+        → length done.said ≤ (D.tells desk.old).room → IsNoDeskFault result }
+    ensures sound { IsNoDeskFault result → StoresAreSound (D.tells desk.old) (D.tells desk.new) }
 {
     match work {
-        Work::Say(text) => say(desk, text),
-        Work::Deal(dealing) => deal_labels(alloc, desk, dealing),
-        Work::Write(writing) => write_and_say(alloc, desk, writing),
+        Work::Say(text) => say(desk, &text),
+        Work::Deal(dealing) => deal_labels(alloc, desk, &dealing),
+        Work::Write(writing) => write_and_say(alloc, desk, &writing),
+        Work::Run(running) => run_and_say(alloc, desk, running),
     }
 }

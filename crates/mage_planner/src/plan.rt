@@ -6,10 +6,9 @@ ghost use Rattle.mage_instr.specs.Limits.{AreInRange};
 ghost use Rattle.mage_schedulable.specs.PlanOf.{IsPlanOf};
 ghost use Rattle.mage_unroll.specs.Limits.{MOST_INSTRS};
 ghost use Rattle.mage_pipe.specs.Loading.{loaded_of};
-ghost use Rattle.mage_pipe.specs.MemoryProgram.{memory_program_of};
 ghost use Rattle.mage_words.specs.Answers.{plan_view};
 ghost use Rattle.mage_words.specs.Words as words;
-ghost use Rattle.mage_planner.specs.Outcome.{Found, costs_of, found_in, or_limits, plan_outcome};
+ghost use Rattle.mage_planner.specs.Outcome.{Found, costs_of, found_in, plan_outcome, program_for};
 ghost use Rattle.mage_planner.specs.Steps.{Gives, StepCounted, IsNoDeskFault};
 ghost use Rattle.mage_planner.specs.Work.{written_by};
 
@@ -24,14 +23,14 @@ use mage_pipe::{Loaded, Planned};
 use mage_words::Plan;
 use std::alloc::Global;
 
-// The memory program of a source, and what it costs.
-fn planned(alloc: Global, loaded: &Loaded, limits: Limits) -> Result<Planned, Refusal>
+/// The memory program of a source, and what it costs.
+pub fn planned(alloc: Global, loaded: &Loaded, limits: Limits) -> Result<Planned, Refusal>
     requires loaded { (text : List ℕ) × (loaded_of text ≡ Ok loaded.now) }
     requires limits { AreInRange limits }
     ensures quiet { (faults : ℕ) → StepCounted faults faults result }
     ensures no_fault { IsNoDeskFault result }
     ensures program { Gives true (λ planned. planned.program) result
-        (or_limits (memory_program_of limits loaded.now.program.workers)) }
+        (program_for limits loaded.now) }
     ensures costs { IfOk result (λ planned. costs_of limits loaded.now ≡ Ok planned.stats.items) }
     ensures is_plan { IfOk result (λ planned. IsPlanOf limits loaded.now.program planned.program) }
     ensures accepted { IfOk result (λ planned. IsAccepted planned.program) }

@@ -1,4 +1,5 @@
 // Why a command isn't done.
+use mage_base::Damage;
 use mage_instr::{Party, Tight};
 use mage_lex::LangKind;
 
@@ -67,6 +68,15 @@ pub enum Refusal {
     CheckNo {
         worker: u16,
         directive: u32,
+    },
+    /// The store of this worker failed while the memory program ran.
+    Store {
+        worker: u16,
+    },
+    /// A page of this worker came back with another digest than it was written with.
+    Damaged {
+        worker: u16,
+        damage: Damage,
     },
     /// The desk failed: a file that isn't there, or can't be read, or an answer that can't be said.
     Desk,

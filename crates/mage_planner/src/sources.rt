@@ -5,7 +5,7 @@ ghost use Rattle.mage_instr.specs.Opcodes.{most_workers};
 ghost use Rattle.mage_instr.specs.Sound.{IsSound};
 ghost use Rattle.mage_lex.specs.Limits.{MOST_BYTES};
 ghost use Rattle.mage_pipe.specs.Loading.{loaded_of};
-ghost use Rattle.mage_planner.specs.Outcome.{File, file_at, bytes_or, or_language, lang_refusal, plan_refusal, long_source, source_of, costs_of, if_planned, planned_of};
+ghost use Rattle.mage_planner.specs.Outcome.{File, file_at, bytes_or, or_language, lang_refusal, plan_refusal, long_source, source_of, costs_of};
 ghost use Rattle.mage_planner.specs.Steps.{Gives, StepCounted, IsNoDeskFault};
 
 use crate::Refusal;
@@ -96,21 +96,6 @@ pub fn costs(alloc: Global, loaded: &Loaded, limits: Limits) -> Result<Vec<Worke
     }
 }
 
-// A program that can be planned within the limits.
-#[tactic(auto, unfolding(crate::specs::Outcome::if_planned))]
-fn planned(alloc: Global, loaded: Loaded, limits: Limits) -> Result<Loaded, Refusal>
-    requires sound { All IsSound loaded.program.workers }
-    requires few { length loaded.program.workers ≤ most_workers }
-    requires limits { AreInRange limits }
-    ensures planned { Gives true (λ loaded. loaded) result (if_planned limits loaded) }
-    ensures sound { IfOk result (λ loaded. All IsSound loaded.program.workers) }
-    ensures quiet { (faults : ℕ) → StepCounted faults faults result }
-    ensures no_fault { IsNoDeskFault result }
-{
-    costs(alloc, &loaded, limits)?;
-    Ok(loaded)
-}
-
 /// The tree of the source that a file has, and the program that it unrolls to.
 #[tactic(auto, unfolding(crate::specs::Outcome::source_of))]
 pub fn read_source<D: Desk>(alloc: Global, desk: &mut D, name: &str) -> Result<Loaded, Refusal>
@@ -126,25 +111,4 @@ pub fn read_source<D: Desk>(alloc: Global, desk: &mut D, name: &str) -> Result<L
 {
     let text = fetch_source(alloc, desk, name)?;
     loaded(alloc, &text)
-}
-
-/// The same of a source that can be planned within the limits.
-#[tactic(auto, unfolding(crate::specs::Outcome::planned_of))]
-pub fn read_planned<D: Desk>(
-    alloc: Global,
-    desk: &mut D,
-    name: &str,
-    limits: Limits,
-) -> Result<Loaded, Refusal>
-    requires limits { AreInRange limits }
-    ensures told { IfSome (D.tells desk.old).files (λ files. Gives (D.tells desk.old).steady
-        (λ loaded. loaded) result (planned_of limits (file_at files name.now MOST_BYTES))) }
-    ensures some { (file : File) × Gives true (λ loaded. loaded) result (planned_of limits file) }
-    ensures sound { IfOk result (λ loaded. All IsSound loaded.program.workers) }
-    ensures cause { StepCounted (D.tells desk.old).faults (D.tells desk.new).faults result }
-    ensures rest { D.tells desk.new
-        ≡ record (D.tells desk.old) { faults = (D.tells desk.new).faults } }
-{
-    let loaded = read_source(alloc, desk, name)?;
-    planned(alloc, loaded, limits)
 }

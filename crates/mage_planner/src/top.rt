@@ -1,17 +1,18 @@
 // The top call.
-ghost use Rattle.std.specs.Prelude.{◌≡◌, ◌≢◌, ◌≤◌, length, None, true, IsTrue, IfSome};
+ghost use Rattle.std.specs.Prelude.{◌≡◌, ◌≢◌, ◌≤◌, ℕ, length, None, true, IsTrue, IfSome};
 ghost use Rattle.mage_base.specs.Faults.{Rose};
-ghost use Rattle.mage_words.specs.Words.{bytes_of_words, request_of};
+ghost use Rattle.mage_words.specs.Words.{bytes_of_words};
 ghost use Rattle.mage_parser.specs.Laws.{ReadingIsTheGrammar};
 ghost use Rattle.mage_pipe.specs.Least.{ReadsAreLeast};
+ghost use Rattle.mage_source_runs.specs.Moves.{PlansMoveAsCounted};
 ghost use Rattle.mage_written.specs.Written.{PlansArePlans};
 ghost use Rattle.mage_planner.specs.declared.refusal.Refusal.TheVariants as refusals;
 ghost use Rattle.mage_planner.specs.Checking.{PlansAreCarried};
 ghost use Rattle.mage_planner.specs.Lines.{line_of};
-ghost use Rattle.mage_planner.specs.Outcome.{Found, outcome_of, outcome_in};
+ghost use Rattle.mage_planner.specs.Outcome.{Found, asked_of, outcome_of, outcome_in};
 ghost use Rattle.mage_planner.specs.Steps.{StepCounted, IsNoDeskFault};
 ghost use Rattle.mage_planner.specs.Upgrading.{EarlierFilesComeToTodays, UpgradesKeepCarried};
-ghost use Rattle.mage_planner.specs.Answer.{Answers, Works, WritesNoFile, AnswerCounted, refusal_of, IsOkOrMemory, IsWordsOrMemory, HasRoom};
+ghost use Rattle.mage_planner.specs.Answer.{Answers, Works, WritesNoFile, RunsNothing, AnswerCounted, refusal_of, IsComplete, IsWordsOrMemory, HasRoom, TellsStores, StoresAreSound};
 
 use crate::command::work;
 use crate::perform::perform;
@@ -31,23 +32,30 @@ fn run<D: Desk>(alloc: Global, words: &[String], desk: &mut D) -> Result<(), Ref
     ensures steady { IsTrue (D.tells desk.old).steady → IfSome (D.tells desk.old).files (λ files.
         IsNoDeskFault (outcome_in files (bytes_of_words words.now))
         → HasRoom (D.tells desk.old) (outcome_in files (bytes_of_words words.now))
+        → TellsStores (D.tells desk.old) (outcome_in files (bytes_of_words words.now))
         → IsNoDeskFault result) }
-    ensures files { WritesNoFile (request_of (bytes_of_words words.now))
+    ensures sound { IsNoDeskFault result → StoresAreSound (D.tells desk.old) (D.tells desk.new) }
+    ensures files { WritesNoFile (asked_of (bytes_of_words words.now))
         → (D.tells desk.new).files ≡ (D.tells desk.old).files }
+    ensures stores { RunsNothing (asked_of (bytes_of_words words.now))
+        → ((D.tells desk.new).returned ≡ (D.tells desk.old).returned)
+        × ((D.tells desk.new).lent ≡ (D.tells desk.old).lent) }
     ensures rest { D.tells desk.new ≡ record (D.tells desk.old) {
       files = (D.tells desk.new).files;
       said = (D.tells desk.new).said;
       faults = (D.tells desk.new).faults;
       room = (D.tells desk.new).room;
+      lent = (D.tells desk.new).lent;
+      returned = (D.tells desk.new).returned;
     } }
 {
     let work = work(alloc, words, desk)?;
-    perform(alloc, desk, &work)
+    perform(alloc, desk, work)
 }
 
 /// Does what `mage_plan` does with these words (`mage_words::read_words`). `solo` reads the source and the input
-/// texts that they name from the desk, tests that a plan within the limits exists, evaluates the source in plain on
-/// one thread, and says its outputs. `stats` says what a plan for the source costs. `plan` writes this plan, a memory program, and
+/// texts that they name from the desk, makes the memory program within the limits, asks the desk for a store for each worker, runs
+/// the memory program in plain over them on one thread, gives them back, and says what was put out. `stats` says what a plan for the source costs. `plan` writes this plan, a memory program, and
 /// says what it costs. `check` says that a memory program carries the source. `upgrade` writes a memory program of the file's
 /// first version in the second. `deal` reads the source, the evaluator's input text and a seed, and writes the labels that are
 /// dealt to each worker's evaluator, a file for each.
@@ -55,7 +63,8 @@ fn run<D: Desk>(alloc: Global, words: &[String], desk: &mut D) -> Result<(), Ref
 /// The work goes in this order, and the first thing that is wrong decides the status: words (`Words`), source fetched
 /// (`Desk`), language (`Language`), limits (`Limits`; `deal` and `check` make no plan), for `check` and `upgrade` memory program
 /// fetched, read and verified (`Desk`, `MemoryProgram`), for `check` compared (`CheckNo`), for `solo` garbler text fetched and read
-/// (`Desk`, `InputText`), for `solo` and `deal` evaluator text likewise, for `deal` the seed likewise; run; then files are
+/// (`Desk`, `InputText`), for `solo` and `deal` evaluator text likewise, for `deal` the seed likewise; for `solo` stores asked for
+/// (`Desk`), the run (`Store`, `Damaged`), stores given back; then files are
 /// written and what is to be said is said (`Desk`). `Memory` may come at any step.
 ///
 /// With any status but `Ok` one line is warned that says what is wrong and where. A warning that fails changes no
@@ -63,6 +72,12 @@ fn run<D: Desk>(alloc: Global, words: &[String], desk: &mut D) -> Result<(), Ref
 pub fn planner<D: Desk>(alloc: Global, words: &[String], desk: &mut D) -> Status
     // Where the desk tells its files, they and the words decide; with Ok, just the outputs or the summary is said, and
     // nothing is warned, and just the files of the command are written. With any other answer every other file stays.
+    // What `solo` says is what the source means, and the store of each worker was read and written just as often as the memory
+    // program has issues of reads and of writes. Where the desk's stores don't tell their pages, another text may be said, but only
+    // if one of them answered a read with other bytes than were last written, of the same SHA-256 digest.
+    // Store comes only where the count of faults of the stores of the worker that the line names rose; Damaged only where the
+    // desk's stores don't tell their pages, and that worker's answered a read of the page with another digest than it was written
+    // with. Every store that was handed out is given back, with each answer.
     ensures told { IfSome (D.tells desk.old).files (λ files. Answers (D.tells desk.old).steady
         (outcome_in files (bytes_of_words words.now)) result (D.tells desk.old)
         (D.tells desk.new)) }
@@ -77,6 +92,9 @@ pub fn planner<D: Desk>(alloc: Global, words: &[String], desk: &mut D) -> Status
     // The reads that a summary says are the fewest that any plan of residency has.
     ensures fewest { ReadsAreLeast }
 
+    // The reads and writes of a memory program that `solo` runs are those that the summary of its source says.
+    ensures moves { PlansMoveAsCounted }
+
     // What `plan` writes of a source is the file of a plan of it, and is read back from it; `check` finds that it carries
     // the source.
     ensures plans { PlansArePlans }
@@ -87,32 +105,42 @@ pub fn planner<D: Desk>(alloc: Global, words: &[String], desk: &mut D) -> Status
     ensures upgrades { UpgradesKeepCarried }
     ensures earlier { EarlierFilesComeToTodays }
 
-    // Words comes just where the words ask for nothing; only want of memory may come in its place.
-    ensures words { (result ≡ Status.Words → request_of (bytes_of_words words.now) ≡ None)
-        × (request_of (bytes_of_words words.now) ≡ None → IsWordsOrMemory result) }
+    // Words comes just where the words ask for nothing that is built; only want of memory may come in its place.
+    ensures words { (result ≡ Status.Words → asked_of (bytes_of_words words.now) ≡ None)
+        × (asked_of (bytes_of_words words.now) ≡ None → IsWordsOrMemory result) }
 
     // Desk comes only where the count of faults rose. With Ok it stays.
     ensures cause { AnswerCounted (D.tells desk.old).faults (D.tells desk.new).faults result }
 
-    // It doesn't give up but for want of memory.
+    // It doesn't give up but for want of memory, or a damaged page where the desk's stores don't tell their pages.
     ensures complete { IfSome (D.tells desk.old).files (λ files.
         refusal_of (outcome_in files (bytes_of_words words.now)) ≡ None
         → (Rose (D.tells desk.old).faults (D.tells desk.new).faults → ⊥)
-        → IsOkOrMemory result) }
+        → ((worker : ℕ) → Rose ((D.tells desk.old).returned worker).faults
+        ((D.tells desk.new).returned worker).faults → ⊥)
+        → IsComplete (D.tells desk.old).stores_tell_pages result) }
 
     // A steady desk doesn't fail that has each file that the command reads, and room for what is said
-    // and warned.
+    // and warned, and whose stores tell their pages where the command asks for some; nor do its stores.
     ensures steady { IsTrue (D.tells desk.old).steady → IfSome (D.tells desk.old).files (λ files.
         IsNoDeskFault (outcome_in files (bytes_of_words words.now))
         → HasRoom (D.tells desk.old) (outcome_in files (bytes_of_words words.now))
+        → TellsStores (D.tells desk.old) (outcome_in files (bytes_of_words words.now))
         → length (line_of refusals.Memory) ≤ (D.tells desk.old).warn_room
-        → ((D.tells desk.new).faults ≡ (D.tells desk.old).faults) × (result ≢ Status.Desk)) }
+        → ((D.tells desk.new).faults ≡ (D.tells desk.old).faults)
+        × StoresAreSound (D.tells desk.old) (D.tells desk.new)
+        × (result ≢ Status.Desk) × (result ≢ Status.Store) × (result ≢ Status.Damaged)) }
 
     // A command that writes no file leaves all files.
-    ensures files { WritesNoFile (request_of (bytes_of_words words.now))
+    ensures files { WritesNoFile (asked_of (bytes_of_words words.now))
         → (D.tells desk.new).files ≡ (D.tells desk.old).files }
 
-    // All else that the desk tells stays: its stores, and whether it is steady.
+    // A command that asks for no store leaves what stores that were given back came to.
+    ensures stores { RunsNothing (asked_of (bytes_of_words words.now))
+        → ((D.tells desk.new).returned ≡ (D.tells desk.old).returned)
+        × ((D.tells desk.new).lent ≡ (D.tells desk.old).lent) }
+
+    // All else that the desk tells stays, as whether it is steady.
     ensures rest { D.tells desk.new ≡ record (D.tells desk.old) {
       files = (D.tells desk.new).files;
       said = (D.tells desk.new).said;
@@ -120,6 +148,8 @@ pub fn planner<D: Desk>(alloc: Global, words: &[String], desk: &mut D) -> Status
       faults = (D.tells desk.new).faults;
       room = (D.tells desk.new).room;
       warn_room = (D.tells desk.new).warn_room;
+      lent = (D.tells desk.new).lent;
+      returned = (D.tells desk.new).returned;
     } }
 {
     match run(alloc, words, desk) {

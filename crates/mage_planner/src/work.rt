@@ -1,5 +1,6 @@
 // What a command does that isn't refused.
 use mage_instr::Program;
+use mage_verify::Part;
 
 /// What is dealt: the labels of these numbers of the evaluator, by this seed.
 #[derive(Drop)]
@@ -19,6 +20,14 @@ pub struct Writing<'a> {
     pub text: Vec<u8>,
 }
 
+/// A memory program that is run, and the inputs of both parties, a list for each worker.
+#[derive(Drop)]
+pub struct Running {
+    pub parts: Vec<Part>,
+    pub garbler: Vec<Vec<u128>>,
+    pub evaluator: Vec<Vec<u128>>,
+}
+
 /// What a command does that isn't refused.
 #[derive(Drop)]
 pub enum Work<'a> {
@@ -28,4 +37,6 @@ pub enum Work<'a> {
     Deal(Dealing<'a>),
     /// To write one file.
     Write(Writing<'a>),
+    /// To run a memory program over stores of the desk, and to say what it puts out.
+    Run(Running),
 }

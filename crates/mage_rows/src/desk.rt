@@ -39,16 +39,16 @@ fn failing(rt: &impl Abort, alloc: Global, call: u64, row: &Row<'_>) {
     assert!(rt; ran.is_ok(), "no memory for {} at {call}", row.words);
 }
 
-// `solo` fetches three times and says once; a fifth call isn't made. `stats` fetches and says once. A warning that fails
-// changes no status.
+// `solo` fetches three times, asks for one store and says once; a sixth call isn't made. `stats` fetches and says once. A
+// warning that fails changes no status.
 fn failing_calls(rt: &impl Abort, alloc: Global) {
     let stats = "stats --source s";
     let costs = b"worker 0 instructions 4 pages 1 needs 1 reads 0 writes 0\n";
-    for call in 0..4 {
+    for call in 0..5 {
         let refused = row_of(SOLO, SUM, Status::Desk, b"", DESK_FAULT);
         failing(rt, alloc, call, &refused);
     }
-    failing(rt, alloc, 4, &row_of(SOLO, SUM, Status::Ok, b"44\n", b""));
+    failing(rt, alloc, 5, &row_of(SOLO, SUM, Status::Ok, b"44\n", b""));
     for call in 0..2 {
         let refused = row_of(stats, SUM, Status::Desk, b"", DESK_FAULT);
         failing(rt, alloc, call, &refused);

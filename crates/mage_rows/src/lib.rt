@@ -17,6 +17,8 @@ mod solo;
 #[cfg(test)]
 mod stats;
 #[cfg(test)]
+mod stores;
+#[cfg(test)]
 mod upgrades;
 #[cfg(test)]
 mod wide;

@@ -1,10 +1,16 @@
+use Rattle.std.proofs.Common.{refl}
+use Rattle.std.proofs.lemmas.Option.{IfSome_then}
+use Rattle.mage_words.specs.Answers.{solo_view}
+use Rattle.mage_words.specs.Words.{Solo}
+use Rattle.mage_planner.specs.Outcome.{found_in, nothing_found, solo_outcome}
+use Rattle.mage_planner.specs.Work.{GivesSo, IsRunOf}
 use Rattle.mage_planner.proofs.command.answer.Goals as goal
 
 pub returns-in-Solo-clause-cause : goal.returns-in-Solo-clause-cause
-returns-in-Solo-clause-cause g c = c.said.ensures.counts _ _ c.solo.ensures.cause
+returns-in-Solo-clause-cause g c = c.to_run.ensures.counts _ _ c.solo.ensures.cause
 
 pub returns-in-Stats-clause-cause : goal.returns-in-Stats-clause-cause
-returns-in-Stats-clause-cause g c = c.said-in-Stats.ensures.counts _ _ c.stats.ensures.cause
+returns-in-Stats-clause-cause g c = c.said.ensures.counts _ _ c.stats.ensures.cause
 
 pub returns-in-Deal-clause-cause : goal.returns-in-Deal-clause-cause
 returns-in-Deal-clause-cause g c = c.dealt.ensures.counts _ _ c.deal.ensures.cause
@@ -17,3 +23,12 @@ returns-in-Check-clause-cause g c = c.said-in-Check.ensures.counts _ _ c.check.e
 
 pub returns-in-Upgrade-clause-cause : goal.returns-in-Upgrade-clause-cause
 returns-in-Upgrade-clause-cause g c = c.written-in-Upgrade.ensures.counts _ _ c.upgrade.ensures.cause
+
+pub returns-in-Solo-clause-told : goal.returns-in-Solo-clause-told
+returns-in-Solo-clause-told g c =
+    rw c.in-Solo.is (IfSome_then (g.D.Desk.tells c.args.desk.now).files
+    {P = λ files. GivesSo (g.D.Desk.tells c.args.desk.now).steady IsRunOf c.solo.result (solo_outcome (found_in files (Solo (solo_view c.in-Solo.request))) (solo_view c.in-Solo.request))}
+    c.solo.ensures.told (λ files h. c.to_run.ensures.gives _ _ h))
+
+pub returns-in-Gen-clause-some : goal.returns-in-Gen-clause-some
+returns-in-Gen-clause-some g c = rw c.in-Gen.is (nothing_found, refl)

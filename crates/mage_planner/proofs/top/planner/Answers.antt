@@ -3,10 +3,11 @@ use Rattle.mage_words.specs.Words.{bytes_of_words}
 use Rattle.mage_planner.specs.Outcome.{outcome_in, outcome_of}
 use Rattle.mage_parser.proofs.ReadingLaw.{reading_is_the_grammar}
 use Rattle.mage_pipe.proofs.LeastReads.{reads_are_least}
+use Rattle.mage_source_runs.proofs.Counting.{plans_move_as_counted}
 use Rattle.mage_written.proofs.Files.{plans_are_plans}
 use Rattle.mage_planner.proofs.CarriedLemmas.{plans_are_carried}
 use Rattle.mage_planner.proofs.UpgradeLemmas.{upgrades_keep_carried, earlier_files_come_to_todays}
-use Rattle.mage_planner.proofs.AnswerLemmas.{answered, answered_files, steady_files}
+use Rattle.mage_planner.proofs.AnswerLemmas.{answered, answered_files, complete_files, steady_files}
 use Rattle.mage_planner.proofs.WordsLemmas.{words_done, words_refused}
 use Rattle.mage_planner.proofs.top.planner.Goals as goal
 
@@ -35,8 +36,19 @@ pub returns-in-Err-clause-steady : goal.returns-in-Err-clause-steady
 returns-in-Err-clause-steady g c = λ steady.
     steady_files _ c.in-Err.refusal c.refuse.result c.status.result c.status.ensures c.refuse.ensures.same _ _ _
     c.refuse.ensures.warns _ (λ files. outcome_in files (bytes_of_words c.args.words.now)) steady c.in-Err.ensures.cause
-    (ap (λ desk. desk.steady) c.in-Err.ensures.rest) (ap (λ desk. desk.warn_room) c.in-Err.ensures.rest)
+    (ap (λ desk. desk.steady) c.in-Err.ensures.rest) (ap (λ desk. desk.warn_room) c.in-Err.ensures.rest) c.in-Err.ensures.sound
     (c.in-Err.ensures.steady steady) c.in-Err.ensures.told
+
+pub returns-in-Err-clause-complete : goal.returns-in-Err-clause-complete
+returns-in-Err-clause-complete g c =
+    complete_files _ c.in-Err.refusal c.refuse.result c.status.result c.status.ensures c.refuse.ensures.same _ _ _
+    c.refuse.ensures.warns _ (λ files. outcome_in files (bytes_of_words c.args.words.now)) c.in-Err.ensures.told
+
+pub returns-in-Ok-clause-moves : goal.returns-in-Ok-clause-moves
+returns-in-Ok-clause-moves g c = plans_move_as_counted
+
+pub returns-in-Err-clause-moves : goal.returns-in-Err-clause-moves
+returns-in-Err-clause-moves g c = plans_move_as_counted
 
 pub returns-in-Ok-clause-reading : goal.returns-in-Ok-clause-reading
 returns-in-Ok-clause-reading g c = reading_is_the_grammar

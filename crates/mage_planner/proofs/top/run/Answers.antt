@@ -1,56 +1,92 @@
-use Rattle.std.proofs.Common.{subst}
+use Rattle.std.proofs.Common.{◌∙◌, ap, subst}
+use Rattle.std.proofs.lemmas.Option.{IfSome_then}
+use Rattle.std.proofs.lemmas.Result.{err_from_is_err_and}
 use Rattle.mage_base.specs.Desk.{DeskTold}
 use Rattle.mage_words.specs.Words.{bytes_of_words}
-use Rattle.mage_planner.specs.Outcome.{outcome_in, outcome_of}
-use Rattle.mage_planner.specs.Work.{done_of}
+use Rattle.mage_planner.specs.Answer.{StoresAreSound}
+use Rattle.mage_planner.specs.Outcome.{Done, outcome_in, outcome_of}
+use Rattle.mage_planner.specs.Steps.{IsNoDeskFault, Refuses}
+use Rattle.mage_planner.specs.Work.{IsWorkOf}
 use Rattle.mage_planner.specs.Writing.{Performs}
-use Rattle.mage_planner.proofs.PerformLemmas.{changes, counts, leaves_files, steady_told, unread, works, works_told}
-use Rattle.mage_planner.proofs.WordsLemmas.{writes_none_of}
+use Rattle.mage_planner.proofs.PerformLemmas.{changes, counts, leaves_files, leaves_stores, refused, steady_told, unread, works, works_told}
+use Rattle.mage_planner.proofs.WordsLemmas.{moves_none_of, no_store_fault, writes_none_of}
 use Rattle.mage_planner.proofs.top.run.Goals as goal
 
 pub returns-clause-told : goal.returns-clause-told
 returns-clause-told g c =
-    let done = done_of c.in_ok-work.work in
     let same = unread _ _ c.in_ok-work.ensures.rest c.in_ok-work.ensures.cause in
-    works_told done _ _ _ _ (λ files. outcome_in files (bytes_of_words c.args.words.now)) c.perform.result c.in_ok-work.ensures.told
-    (subst (λ (desk : DeskTold). Performs done c.perform.result desk (g.D.Desk.tells c.perform.new.desk)) same c.perform.ensures.performs)
+    works_told (g.D.Desk.tells c.args.desk.now) (g.D.Desk.tells c.perform.new.desk) (IsWorkOf c.in_ok-work.work) _ _
+    (λ files. outcome_in files (bytes_of_words c.args.words.now)) c.perform.result c.in_ok-work.ensures.told
+    (λ done is. subst (λ (desk : DeskTold). Performs done c.perform.result desk (g.D.Desk.tells c.perform.new.desk)) same (c.perform.ensures.performs done is))
 
 pub returns-clause-some : goal.returns-clause-some
 returns-clause-some g c =
-    let done = done_of c.in_ok-work.work in
     let same = unread _ _ c.in_ok-work.ensures.rest c.in_ok-work.ensures.cause in
     let found = c.in_ok-work.ensures.some in (
       found.0,
-      works done _ _ _ (outcome_of found.0 (bytes_of_words c.args.words.now)) c.perform.result found.1
-          (subst (λ (desk : DeskTold). Performs done c.perform.result desk (g.D.Desk.tells c.perform.new.desk)) same c.perform.ensures.performs),
+      works found.1.0 _ _ _ (outcome_of found.0 (bytes_of_words c.args.words.now)) c.perform.result found.1.2
+          (subst (λ (desk : DeskTold). Performs found.1.0 c.perform.result desk (g.D.Desk.tells c.perform.new.desk)) same (c.perform.ensures.performs found.1.0 found.1.1)),
     )
 
 pub returns-clause-cause : goal.returns-clause-cause
 returns-clause-cause g c =
-    let done = done_of c.in_ok-work.work in
     let same = unread _ _ c.in_ok-work.ensures.rest c.in_ok-work.ensures.cause in
-    counts done _ _ c.perform.result
-    (subst (λ (desk : DeskTold). Performs done c.perform.result desk (g.D.Desk.tells c.perform.new.desk)) same c.perform.ensures.performs)
+    let found = c.in_ok-work.ensures.some in
+    counts found.1.0 _ _ c.perform.result
+    (subst (λ (desk : DeskTold). Performs found.1.0 c.perform.result desk (g.D.Desk.tells c.perform.new.desk)) same (c.perform.ensures.performs found.1.0 found.1.1))
 
 pub returns-clause-steady : goal.returns-clause-steady
 returns-clause-steady g c = λ steady.
-    let done = done_of c.in_ok-work.work in
     let same = unread _ _ c.in_ok-work.ensures.rest c.in_ok-work.ensures.cause in
-    steady_told done (g.D.Desk.tells c.args.desk.now) (g.D.Desk.tells c.perform.new.desk) (g.D.Desk.tells c.args.desk.now).files (λ files. outcome_in files (bytes_of_words c.args.words.now)) c.perform.result
-    c.in_ok-work.ensures.told (rw same at (c.perform.ensures.steady) steady)
+    let mid = c.perform.ensures.steady in
+    steady_told (g.D.Desk.tells c.args.desk.now) (g.D.Desk.tells c.perform.new.desk) (IsWorkOf c.in_ok-work.work) (g.D.Desk.tells c.args.desk.now).files
+    (λ files. outcome_in files (bytes_of_words c.args.words.now)) c.perform.result
+    c.in_ok-work.ensures.told (λ done is. rw same at (mid done is) steady)
+
+pub returns-clause-sound : goal.returns-clause-sound
+returns-clause-sound g c = λ none.
+    let same = unread _ _ c.in_ok-work.ensures.rest c.in_ok-work.ensures.cause in
+    subst (λ (desk : DeskTold). StoresAreSound desk (g.D.Desk.tells c.perform.new.desk)) same (c.perform.ensures.sound none)
+
+pub returns-clause-stores : goal.returns-clause-stores
+returns-clause-stores g c = λ none.
+    let same = unread _ _ c.in_ok-work.ensures.rest c.in_ok-work.ensures.cause in
+    let found = c.in_ok-work.ensures.some in
+    leaves_stores found.1.0 _ _ c.perform.result
+    (subst (λ (desk : DeskTold). Performs found.1.0 c.perform.result desk (g.D.Desk.tells c.perform.new.desk)) same (c.perform.ensures.performs found.1.0 found.1.1))
+    (moves_none_of found.0 (bytes_of_words c.args.words.now) found.1.0 none found.1.2)
 
 pub returns-clause-rest : goal.returns-clause-rest
 returns-clause-rest g c =
-    let done = done_of c.in_ok-work.work in
     let same = unread _ _ c.in_ok-work.ensures.rest c.in_ok-work.ensures.cause in
-    changes done _ _ c.perform.result
-    (subst (λ (desk : DeskTold). Performs done c.perform.result desk (g.D.Desk.tells c.perform.new.desk)) same c.perform.ensures.performs)
+    let found = c.in_ok-work.ensures.some in
+    changes found.1.0 _ _ c.perform.result
+    (subst (λ (desk : DeskTold). Performs found.1.0 c.perform.result desk (g.D.Desk.tells c.perform.new.desk)) same (c.perform.ensures.performs found.1.0 found.1.1))
 
 pub returns-clause-files : goal.returns-clause-files
 returns-clause-files g c = λ none.
-    let done = done_of c.in_ok-work.work in
     let same = unread _ _ c.in_ok-work.ensures.rest c.in_ok-work.ensures.cause in
     let found = c.in_ok-work.ensures.some in
-    leaves_files done _ _ c.perform.result
-    (subst (λ (desk : DeskTold). Performs done c.perform.result desk (g.D.Desk.tells c.perform.new.desk)) same c.perform.ensures.performs)
-    (writes_none_of found.0 (bytes_of_words c.args.words.now) done none found.1)
+    leaves_files found.1.0 _ _ c.perform.result
+    (subst (λ (desk : DeskTold). Performs found.1.0 c.perform.result desk (g.D.Desk.tells c.perform.new.desk)) same (c.perform.ensures.performs found.1.0 found.1.1))
+    (writes_none_of found.0 (bytes_of_words c.args.words.now) found.1.0 none found.1.2)
+
+pub returns-in_err-work-clause-told : goal.returns-in_err-work-clause-told
+returns-in_err-work-clause-told g c =
+    let p = err_from_is_err_and c.from_residual.result c.from_residual.ensures.1 in
+    let why = c.in_err-work.field-0.0 in
+    rw (p.1, p.2) (IfSome_then (g.D.Desk.tells c.args.desk.now).files
+    {P = λ files. Refuses (g.D.Desk.tells c.args.desk.now).steady why (outcome_in files (bytes_of_words c.args.words.now))}
+    c.in_err-work.ensures.told
+    (λ files h. refused _ (outcome_in files (bytes_of_words c.args.words.now)) why (g.D.Desk.tells c.args.desk.now) (g.D.Desk.tells c.work.new.desk)
+    (no_store_fault _ (bytes_of_words c.args.words.now) why) h c.in_err-work.ensures.cause c.in_err-work.ensures.rest))
+
+pub returns-in_err-work-clause-some : goal.returns-in_err-work-clause-some
+returns-in_err-work-clause-some g c =
+    let p = err_from_is_err_and c.from_residual.result c.from_residual.ensures.1 in
+    let why = c.in_err-work.field-0.0 in
+    let found = c.in_err-work.ensures.some in (
+      found.0,
+      rw (p.1, p.2) (refused _ (outcome_of found.0 (bytes_of_words c.args.words.now)) why (g.D.Desk.tells c.args.desk.now) (g.D.Desk.tells c.work.new.desk)
+          (no_store_fault found.0 (bytes_of_words c.args.words.now) why) found.1 c.in_err-work.ensures.cause c.in_err-work.ensures.rest),
+    )

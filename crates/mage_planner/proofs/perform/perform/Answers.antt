@@ -1,0 +1,32 @@
+use Rattle.std.proofs.Common.{◌≡◌, [], refl}
+use Rattle.mage_planner.specs.Outcome.{says}
+use Rattle.mage_planner.specs.Work.{dealt_by, written_by}
+use Rattle.mage_planner.proofs.PerformLemmas.{work_without_stores}
+use Rattle.mage_planner.proofs.RanLemmas.{all_sound, some_moves, still_sound}
+use Rattle.mage_planner.proofs.perform.perform.Goals as goal
+
+pub returns-in-Say-clause-performs : goal.returns-in-Say-clause-performs
+returns-in-Say-clause-performs g c = λ done is.
+    work_without_stores done (says c.in-Say.text.items) c.say.result _ _ refl (rw c.in-Say.is at is) (rw c.deref.ensures.value at c.say.ensures.performs)
+
+pub returns-in-Deal-clause-performs : goal.returns-in-Deal-clause-performs
+returns-in-Deal-clause-performs g c = λ done is.
+    work_without_stores done (dealt_by c.in-Deal.dealing) c.deal_labels.result _ _ refl (rw c.in-Deal.is at is) c.deal_labels.ensures.performs
+
+pub returns-in-Write-clause-performs : goal.returns-in-Write-clause-performs
+returns-in-Write-clause-performs g c = λ done is.
+    work_without_stores done (written_by c.in-Write.writing) c.write_and_say.result _ _ refl (rw c.in-Write.is at is) c.write_and_say.ensures.performs
+
+pub returns-in-Say-clause-sound : goal.returns-in-Say-clause-sound
+returns-in-Say-clause-sound g c = λ none. still_sound c.deref.result.now [] c.say.result (g.D.Desk.tells c.args.desk.now) (g.D.Desk.tells c.args.desk.now) (g.D.Desk.tells c.say.new.desk) (all_sound (g.D.Desk.tells c.args.desk.now)) c.say.ensures.performs
+
+pub returns-in-Deal-clause-sound : goal.returns-in-Deal-clause-sound
+returns-in-Deal-clause-sound g c = λ none. still_sound (dealt_by c.in-Deal.dealing).said (dealt_by c.in-Deal.dealing).files c.deal_labels.result (g.D.Desk.tells c.args.desk.now) (g.D.Desk.tells c.args.desk.now) (g.D.Desk.tells c.deal_labels.new.desk) (all_sound (g.D.Desk.tells c.args.desk.now)) c.deal_labels.ensures.performs
+
+pub returns-in-Write-clause-sound : goal.returns-in-Write-clause-sound
+returns-in-Write-clause-sound g c = λ none. still_sound (written_by c.in-Write.writing).said (written_by c.in-Write.writing).files c.write_and_say.result (g.D.Desk.tells c.args.desk.now) (g.D.Desk.tells c.args.desk.now) (g.D.Desk.tells c.write_and_say.new.desk) (all_sound (g.D.Desk.tells c.args.desk.now)) c.write_and_say.ensures.performs
+
+pub returns-in-Run-clause-steady : goal.returns-in-Run-clause-steady
+returns-in-Run-clause-steady g c = λ done is steady tells has.
+    let run = rw c.in-Run.is at is in
+    c.run_and_say.ensures.steady done run steady (tells (some_moves c.in-Run.running done (rw c.in-Run.is at c.requires) run)) has
