@@ -6,3 +6,5 @@ mod Preparing
 mod Counting
 mod Agreeing
 mod Plainly
+mod Handing
+mod Streaming
