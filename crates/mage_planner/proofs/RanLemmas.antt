@@ -1,5 +1,5 @@
 -- What a run of a source's memory program comes to.
-use Rattle.std.proofs.Common.{◌≡◌, ◌≢◌, ◌<◌, ◌≤◌, ◌+◌, ◌++◌, ◌⊎◌, inl, inr, ℕ, zero, suc, List, [], ◌∷◌, length, map, nat_lt, Bool, true, false, cond, IsTrue, Option, Some, None, Vec, Result, Ok, Err, refl, sym, ap, ap₂, subst, ◌∙◌, arith}
+use Rattle.std.proofs.Common.{◌≡◌, ◌≢◌, ◌<◌, ◌≤◌, ◌+◌, ◌++◌, ◌⊎◌, inl, inr, ℕ, zero, suc, List, [], ◌∷◌, length, map, nat_lt, Bool, true, false, cond, IsTrue, Option, Vec, Result, Ok, Err, refl, sym, ap, ap₂, subst, ◌∙◌, arith}
 use Rattle.std.specs.Prelude.{◌^◌, ◌*◌, replicate, IfSome, slice_get, IfOk, IfErr, OnOk, slice_index, take}
 use Rattle.std.specs.List.{All, AllZip, slice_index_or}
 use Rattle.std.proofs.lemmas.Bool.{ltb-true, ltb-false}
@@ -20,10 +20,9 @@ use Rattle.mage_instr.specs.Inputs.{widths_in, input_widths_of}
 use Rattle.mage_linked.specs.declared.emitted.Emitted.{Emitted}
 use Rattle.mage_linked.specs.Emission.{own_instrs, program_of}
 use Rattle.mage_linked.specs.Workers.{list_at, below}
-use Rattle.mage_linked.proofs.WorkerLemmas.{list_at-map, length-map_below}
+use Rattle.mage_linked.proofs.WorkerLemmas.{list_at-map}
 use Rattle.mage_meaning.specs.Given.{Given}
 use Rattle.mage_meaning.specs.Means.{means_of}
-use Rattle.mage_meaning.specs.Value.{value_of}
 use Rattle.mage_sched.specs.Scheduled.{page_read, page_written}
 use Rattle.std.specs.List.{flat_map}
 use Rattle.mage_texts.specs.InputText.{FitWidths}
@@ -34,7 +33,7 @@ use Rattle.mage_verify.specs.Runs.{AreVerified}
 use Rattle.mage_verify.proofs.Walked.{directives_of}
 use Rattle.mage_directives.specs.Directives.{IsMemProgram}
 use Rattle.mage_carried.specs.Laws.{Carries}
-use Rattle.mage_plain_runs.specs.Plainly.{Fit, InputsFit}
+use Rattle.mage_plain_runs.specs.Plainly.{Fit}
 use Rattle.mage_garbled_runs.specs.Meant.{CanRunOn}
 use Rattle.mage_core.specs.declared.fault.RunFault.{RunFault}
 use Rattle.mage_core.specs.declared.fault.RunFault.TheVariants as fault
@@ -44,7 +43,7 @@ use Rattle.mage_lending.specs.Stores.{AreLent, IsLent, AreBack, own_stores, told
 use Rattle.mage_solo.specs.Plain.{PlainStops}
 use Rattle.mage_solo.specs.Stores as solo
 use Rattle.mage_solo.specs.Stores.{AreMoved, HaveGrown}
-use Rattle.mage_source_runs.specs.Moves.{Moves, moves_of}
+use Rattle.mage_source_runs.specs.Moves.{Moves}
 use Rattle.mage_source_runs.specs.Runs.{RunsSource}
 use Rattle.mage_source_runs.proofs.Running.{sources_can_be_run}
 use Rattle.mage_planner.specs.declared.refusal.Refusal.{Refusal}

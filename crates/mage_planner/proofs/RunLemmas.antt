@@ -1,8 +1,7 @@
 -- A run over stores of the desk: what they come to, and what is said.
-use Rattle.std.proofs.Common.{◌≡◌, ◌<◌, ◌≤◌, ◌+◌, ◌++◌, inl, inr, ℕ, zero, suc, min, List, [], ◌∷◌, length, map, Bool, true, false, cond, IsTrue, Option, Some, None, IsSome, Vec, Result, Ok, Err, slice_get, refl, sym, ap, ap₂, subst, ◌∙◌, arith}
-use Rattle.std.specs.List.{All, flat_map, slice_index_or}
+use Rattle.std.proofs.Common.{◌≡◌, ◌<◌, ◌≤◌, ◌++◌, ℕ, zero, suc, List, [], ◌∷◌, length, map, Bool, true, false, cond, IsTrue, Option, Some, None, IsSome, slice_get, refl, sym, ap, subst, ◌∙◌, arith}
+use Rattle.std.specs.List.{All, flat_map}
 use Rattle.std.specs.Option.{IfSome, option_map, option_or, option_to_list}
-use Rattle.std.specs.declared.alloc.Global.{Global}
 use Rattle.mage_base.specs.declared.failure.Damage.{Damage}
 use Rattle.mage_base.specs.Desk.{DeskTold, Returned, HandsStore, with_store}
 use Rattle.mage_base.specs.Faults.{Rose}
@@ -23,7 +22,6 @@ use Rattle.mage_core.specs.Issues.{issues_in, issues_out}
 use Rattle.mage_core.proofs.Issuing.{finishes_all}
 use Rattle.mage_core.specs.Ports.{pages_moved}
 use Rattle.mage_core.specs.Results.{Gained, Grew}
-use Rattle.mage_lending.specs.declared.stores.StoreOrder.{StoreOrder}
 use Rattle.mage_lending.specs.Stores.{AreLent, AreBack, with_shelf, shelf_at}
 use Rattle.mage_solo.specs.Stores as solo
 use Rattle.mage_solo.specs.Stores.{Stored, IsMoved, IsDamagedBy, SufficesFor, AreMoved, HaveGrown, HasBroken, HasDamaged, AllSuffice}

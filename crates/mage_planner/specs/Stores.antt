@@ -1,5 +1,5 @@
 -- What becomes of the stores that a command asks a desk for.
-use Rattle.std.specs.Prelude.{◌≡◌, ◌≤◌, ◌⊎◌, ℕ, List, [], ◌∷◌, false, Option, Some, None, slice_get, if◌then◌else◌}
+use Rattle.std.specs.Prelude.{◌≡◌, ◌≤◌, ◌⊎◌, ℕ, List, [], ◌∷◌, false, Some, None, slice_get, if◌then◌else◌}
 use Rattle.mage_base.specs.declared.failure.Damage.{Damage}
 use Rattle.mage_base.specs.Desk.{DeskTold}
 use Rattle.mage_base.specs.Store.{StoreTold, Transfer}

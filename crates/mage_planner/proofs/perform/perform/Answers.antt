@@ -1,4 +1,4 @@
-use Rattle.std.proofs.Common.{◌≡◌, [], refl}
+use Rattle.std.proofs.Common.{[], refl}
 use Rattle.mage_planner.specs.Outcome.{says}
 use Rattle.mage_planner.specs.Work.{dealt_by, written_by}
 use Rattle.mage_planner.proofs.PerformLemmas.{work_without_stores}

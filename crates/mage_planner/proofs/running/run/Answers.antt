@@ -1,4 +1,4 @@
-use Rattle.std.proofs.Common.{◌≡◌, ap, ◌∙◌}
+use Rattle.std.proofs.Common.{ap, ◌∙◌}
 use Rattle.std.proofs.lemmas.Result.{err_from_is_err_and}
 use Rattle.mage_planner.specs.Ran.{orders_of}
 use Rattle.mage_planner.proofs.RanLemmas.{few_orders, has_lent, lent_so, nothing_done, unlent, unlent_is_sound}

@@ -1,5 +1,5 @@
-use Rattle.std.proofs.Common.{◌≡◌, ◌++◌, length, sym, ◌∙◌, ap, subst, arith}
-use Rattle.mage_lending.specs.Stores.{told_on, own_stores}
+use Rattle.std.proofs.Common.{arith}
+use Rattle.mage_lending.specs.Stores.{told_on}
 use Rattle.mage_planner.proofs.RanLemmas.{ends, suits, lent_count, few_parts, same_shape, one_on_each, as_many_back, lent_now, lent_pair, back_before, sound_over, unbroken_so}
 use Rattle.mage_planner.proofs.RunLemmas.{all_suffice}
 use Rattle.mage_planner.proofs.running.run_over.Goals as goal

@@ -1,11 +1,11 @@
-use Rattle.std.proofs.Common.{◌∙◌, ap, subst}
+use Rattle.std.proofs.Common.{subst}
 use Rattle.std.proofs.lemmas.Option.{IfSome_then}
 use Rattle.std.proofs.lemmas.Result.{err_from_is_err_and}
 use Rattle.mage_base.specs.Desk.{DeskTold}
 use Rattle.mage_words.specs.Words.{bytes_of_words}
 use Rattle.mage_planner.specs.Answer.{StoresAreSound}
-use Rattle.mage_planner.specs.Outcome.{Done, outcome_in, outcome_of}
-use Rattle.mage_planner.specs.Steps.{IsNoDeskFault, Refuses}
+use Rattle.mage_planner.specs.Outcome.{outcome_in, outcome_of}
+use Rattle.mage_planner.specs.Steps.{Refuses}
 use Rattle.mage_planner.specs.Work.{IsWorkOf}
 use Rattle.mage_planner.specs.Writing.{Performs}
 use Rattle.mage_planner.proofs.PerformLemmas.{changes, counts, leaves_files, leaves_stores, refused, steady_told, unread, works, works_told}
