@@ -22,8 +22,8 @@ use Rattle.mage_verify.specs.Parts.{WorkerPart, parts_from, parts_of}
 use Rattle.mage_verify.specs.Faults.{fault_of}
 use Rattle.mage_verified_runs.specs.Turns.{verified_turns}
 use Rattle.mage_verified_runs.proofs.Ending.{verified_ends}
-use Rattle.mage_engine.specs.Seen.{Seen, IsEnded, is_finished, worker_with, engine_with}
-use Rattle.mage_engine.specs.Steps.{heard_in, first_worker}
+use Rattle.mage_engine.specs.Seen.{Seen, IsEnded, HoldSame, is_finished, worker_with, engine_with}
+use Rattle.mage_engine.specs.Steps.{heard_in, first_worker, next_with}
 use Rattle.mage_core.specs.Going.{Start, IsGoing, HasGone, AllGo}
 use Rattle.mage_core.proofs.Starting.{if_found, get_within, part_at}
 use Rattle.mage_core.proofs.Alike.{answered_ends}
@@ -56,6 +56,9 @@ module _ {W : Type 0} (rules : Rules W) (plan : MemProgram) (drivers : ℕ → r
   pub record IsOwn (n : ℕ) (state : Flight rules plan) (heard : ℕ → List (List ℕ)) (machine : Seen rules.State) : Type 0 where
     pub driver : state.engine.driver ≡ machine.driver.state
     pub answers : heard ≡ heard_in machine.port.finished
+    pub bank : ℕ → List ℕ
+    pub holds : HoldSame machine bank
+    pub next : core_hearing rules plan n state ≡ hears_in (next_with rules machine bank) (worker_with machine bank)
     pub stops : IsEnded machine → core_hearing rules plan n state ≡ Does Stops
 
   -- the own run of a worker, as far as it went
@@ -117,6 +120,16 @@ module _ {W : Type 0} (rules : Rules W) (plan : MemProgram) (drivers : ℕ → r
         nothing = ap (λ (ds : List Directive). slice_get ds machine.place) (sym directives_so)
             ∙ ap (λ (p : WorkerPart). slice_get p.directives machine.place) (sym g.part) ∙ ended.past
 
+    abbrev bank : ℕ → List ℕ
+    bank = (g.along told).bank
+
+    -- what its worker does next is what its engine does next
+    next_so : core_hearing rules plan w (worker_with machine bank) ≡ hears_in (next_with rules machine bank) (worker_with machine bank)
+    next_so =
+        ap (λ (l : Limits). hears_in (doing rules l.page (directives_of plan w) (engine_with machine bank)) (worker_with machine bank)) (sym limits_so)
+        ∙ ap (λ (ds : List Directive). hears_in (doing rules start.part.limits.page ds (engine_with machine bank)) (worker_with machine bank)) (sym directives_so)
+        ∙ ap (λ (p : WorkerPart). hears_in (doing rules p.limits.page p.directives (engine_with machine bank)) (worker_with machine bank)) (sym g.part)
+
     pub own_of : Own w
     own_of = record {
       state = worker_with machine (g.along told).bank;
@@ -132,7 +145,7 @@ module _ {W : Type 0} (rules : Rules W) (plan : MemProgram) (drivers : ℕ → r
           (g.along told).along))));
       of = λ other is. let same : machine ≡ other = some_one machine other (sym at ∙ is) in
           subst (λ (m : Seen rules.State). IsOwn w (worker_with machine (g.along told).bank) (heard_in machine.port.finished) m) same
-          (record { driver = refl; answers = refl; stops = own_stops });
+          (record { driver = refl; answers = refl; bank = bank; holds = (g.along told).holds; next = next_so; stops = own_stops });
     }
 
   -- ---- all workers
@@ -149,7 +162,7 @@ module _ {W : Type 0} (rules : Rules W) (plan : MemProgram) (drivers : ℕ → r
         let gone = if_found (HasGone rules starts n links) (slice_get machines n) machine is (all n) in
         own_of gone.start n machine is gone.going (parts_so n gone.start gone.from) (told_so n gone.start gone.from) (drivers_so n gone.start gone.from)
 
-    own : (n : ℕ) → Own n
+    pub own : (n : ℕ) → Own n
     own n = own_at n (slice_get machines n) refl
 
     pub answers_of : ℕ → ℕ → List (List ℕ)

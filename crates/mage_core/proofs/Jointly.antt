@@ -21,7 +21,8 @@ use Rattle.mage_verify.specs.Faults.{fault_of}
 use Rattle.mage_verify.specs.Parts.{WorkerPart, parts_of}
 use Rattle.mage_verified_runs.specs.Turns.{verified_turns}
 use Rattle.mage_verified_runs.proofs.Ending.{verified_ends}
-use Rattle.mage_engine.specs.Seen.{Seen, IsEnded, is_finished, engine_with}
+use Rattle.mage_engine.specs.Seen.{Seen, IsEnded, HoldSame, is_finished, engine_with}
+use Rattle.mage_engine.specs.Steps.{next_with}
 use Rattle.mage_core.specs.Going.{Start, IsGoing, HasGone, AllGo}
 use Rattle.mage_core.specs.Paging.{AllRight, GoesOverPages, first_paged}
 use Rattle.mage_core.proofs.Starting.{if_found, part_at}
@@ -31,6 +32,9 @@ module _ {W : Type 0} (rules : Rules W) (plan : MemProgram) (drivers : ℕ → r
   -- a machine stands where its worker's own run over pages is
   pub record IsOver (n : ℕ) (state : Core rules plan) (machine : Seen rules.State) : Type 0 where
     pub driver : state.engine.driver ≡ machine.driver.state
+    pub bank : ℕ → List ℕ
+    pub holds : HoldSame machine bank
+    pub next : core_act rules plan n state ≡ or_stops (act_in served_at_once (next_with rules machine bank) state)
     pub stops : IsEnded machine → core_act rules plan n state ≡ Stops
 
   -- that run, as far as it went
@@ -91,6 +95,17 @@ module _ {W : Type 0} (rules : Rules W) (plan : MemProgram) (drivers : ℕ → r
         nothing = ap (λ (ds : List Directive). slice_get ds machine.place) (sym directives_so)
             ∙ ap (λ (p : WorkerPart). slice_get p.directives machine.place) (sym g.part) ∙ ended.past
 
+    -- what its worker does next is what its engine does next
+    next_so : core_act rules plan w over.worker ≡ or_stops (act_in served_at_once (next_with rules machine over.bank) over.worker)
+    next_so =
+        ap (λ (e : Engine rules.State). or_stops {L = Call rules.State W} {W = List ℕ} (act_in served_at_once (doing rules plan.limits.page (directives_of plan w) e) over.worker)) over.engine
+        ∙ ap (λ (l : Limits). or_stops {L = Call rules.State W} {W = List ℕ}
+        (act_in served_at_once (doing rules l.page (directives_of plan w) (engine_with machine over.bank)) over.worker)) (sym limits_so)
+        ∙ ap (λ (ds : List Directive). or_stops {L = Call rules.State W} {W = List ℕ}
+        (act_in served_at_once (doing rules start.part.limits.page ds (engine_with machine over.bank)) over.worker)) (sym directives_so)
+        ∙ ap (λ (p : WorkerPart). or_stops {L = Call rules.State W} {W = List ℕ}
+        (act_in served_at_once (doing rules p.limits.page p.directives (engine_with machine over.bank)) over.worker)) (sym g.part)
+
     pub over_of : Over w
     over_of = record {
       state = over.worker;
@@ -106,7 +121,13 @@ module _ {W : Type 0} (rules : Rules W) (plan : MemProgram) (drivers : ℕ → r
           over.along))));
       of = λ other is. let same : machine ≡ other = some_one machine other (sym at ∙ is) in
           subst (λ (m : Seen rules.State). IsOver w over.worker m) same
-          (record { driver = ap (λ (e : Engine rules.State). e.driver) over.engine; stops = over_stops });
+          (record {
+            driver = ap (λ (e : Engine rules.State). e.driver) over.engine;
+            bank = over.bank;
+            holds = over.holds;
+            next = next_so;
+            stops = over_stops;
+          });
     }
 
   -- ---- all workers
@@ -124,7 +145,7 @@ module _ {W : Type 0} (rules : Rules W) (plan : MemProgram) (drivers : ℕ → r
         over_of gone.start n machine is gone.going (parts_so n gone.start gone.from) (drivers_so n gone.start gone.from)
         (gone.going.over (told_so n gone.start gone.from) (right n machine is))
 
-    over : (n : ℕ) → Over n
+    pub over : (n : ℕ) → Over n
     over n = over_at n (slice_get machines n) refl
 
     went : AreAlong (core_act rules plan) (core_at_first rules plan drivers) (λ n. (over n).state) (λ n. (over n).said) (λ n. (over n).taken) (λ n m. (queue_told links).sent n m)

@@ -22,5 +22,10 @@ mod Deciding
 mod Jointly
 mod Either
 mod Reaching
+mod Rows
+mod Saying
+mod Last
+mod Begun
+mod Beginning
 mod Finishing
 mod Lending

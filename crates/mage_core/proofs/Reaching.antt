@@ -191,7 +191,7 @@ module _ {W : Type 0} (rules : Rules W) (starts : List (Start rules.State)) (par
 
   pub turned_down : (old new : List (Seen rules.State)) (before after : QueueState) (found : RunFault) → GoOn rules starts parts old before →
       TurnsTo rules old new before after (Err found) → EndsAs rules starts new after (Some found)
-  turned_down old new before after found h t = (old, before, h.gone, t)
+  turned_down old new before after found h t = (old, before, h.gone, t, h.quiet)
 
 -- ---- at first
 

@@ -278,14 +278,16 @@ module _ {W D S : Type 0} (rules : Rules W) (driver_tells : D → Told rules.Sta
   stores = stores_in rules driver_tells store_tells machines
 
   -- the machine of a worker that comes back
-  record Of (w : ℕ) (back : Back starts drivers stores w) : Type 0 where
-    machine : RunMachine D S
-    store : store_tells (store_of machine) ≡ back.store
-    came_by : CameBy store_tells machine
-    leaves : Leaves rules starts result w (sight rules driver_tells store_tells machine)
-    start : leaves.start ≡ back.start
+  pub record Of (w : ℕ) (back : Back starts drivers stores w) : Type 0 where
+    pub machine : RunMachine D S
+    pub at : slice_get machines w ≡ Some machine
+    pub driver : driver_tells machine.driver ≡ back.driver
+    pub store : store_tells (store_of machine) ≡ back.store
+    pub came_by : CameBy store_tells machine
+    pub leaves : Leaves rules starts result w (sight rules driver_tells store_tells machine)
+    pub start : leaves.start ≡ back.start
 
-  of_back : (w : ℕ) (back : Back starts drivers stores w) → Of w back
+  pub of_back : (w : ℕ) (back : Back starts drivers stores w) → Of w back
   of_back w back =
       let of_driver = unmap driver_tells (map (λ machine. machine.driver) machines) w back.driver back.driver_so in
       let of = unmap (λ (m : RunMachine D S). m.driver) machines w of_driver.0 of_driver.1 in
@@ -295,6 +297,8 @@ module _ {W D S : Type 0} (rules : Rules W) (driver_tells : D → Told rules.Sta
       (leaves_all rules starts (sights driver_tells store_tells machines) links result ends w) in
       record {
         machine = m;
+        at = of.1;
+        driver = ap driver_tells of.2 ∙ of_driver.2;
         store = head_one _ _ (sym (store_at rules driver_tells store_tells machines w m of.1) ∙ back.store_so);
         came_by = all_get (CameBy store_tells) machines w m came of.1;
         leaves = left;

@@ -102,4 +102,4 @@ module _ {W : Type 0} (rules : Rules W) (starts : List (Start rules.State)) wher
   EndsAs machines links None =
       AllGo machines links × ((w : ℕ) → IfSome (slice_get machines w) IsEnded) × NoOthersSend links
   EndsAs machines links (Some found) =
-      (before : List (Seen rules.State)) × (old : QueueState) × AllGo before old × Falls rules before machines old links found
+      (before : List (Seen rules.State)) × (old : QueueState) × AllGo before old × Falls rules before machines old links found × NoOthersSend old

@@ -10,3 +10,4 @@ pub mod Answered
 pub mod Issues
 pub mod Steady
 pub mod Joined
+pub mod Begun

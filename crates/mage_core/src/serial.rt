@@ -12,6 +12,7 @@ ghost use Rattle.mage_core.specs.Turns.{sights};
 ghost use Rattle.mage_core.specs.Results.{starts_of, AllStay, Back, ComesTo};
 ghost use Rattle.mage_core.specs.Answered.{AreStates, AreTold, RunsAnswered};
 ghost use Rattle.mage_core.specs.Joined.{RunsJoint, WasDeceived};
+ghost use Rattle.mage_core.specs.Begun.{BeginsAnswered};
 ghost use Rattle.mage_core.specs.Steady.{Suffices, IsNotOfStore, IsNotOfDriver, TellsAlike};
 ghost use Rattle.mage_base.specs.declared.failure.Damage.{Damage};
 ghost use Rattle.mage_instr.specs.declared.fault.DriverFault.{DriverFault};
@@ -157,6 +158,17 @@ pub fn solo<D: Driver, S: Store>(
         (map (λ shelf. map S.tells shelf) (shelves stores.items)))
         (map D.tells result.drivers.items)
         (map (λ shelf. map S.tells shelf) (shelves result.stores.items)) }
+    ensures begins_answered { (plan : MemProgram) (states : ℕ → D.rules.State)
+        → IsMemProgram plan → parts.items ≡ parts_of plan
+        → AreStates (starts_of parts.items (map D.tells drivers.items)
+        (map (λ shelf. map S.tells shelf) (shelves stores.items))) states
+        → AreTold (starts_of parts.items (map D.tells drivers.items)
+        (map (λ shelf. map S.tells shelf) (shelves stores.items)))
+        → (result.fault ≡ Some fault.Memory → ⊥) → BeginsAnswered D.rules plan states
+        (starts_of parts.items (map D.tells drivers.items)
+        (map (λ shelf. map S.tells shelf) (shelves stores.items)))
+        (map D.tells result.drivers.items)
+        (map (λ shelf. map S.tells shelf) (shelves result.stores.items)) result.fault }
     ensures steady { ((w : ℕ) → IfSome (slice_get
         (starts_of parts.items (map D.tells drivers.items)
         (map (λ shelf. map S.tells shelf) (shelves stores.items))) w) Suffices)
