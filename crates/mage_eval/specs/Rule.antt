@@ -9,6 +9,8 @@ use Rattle.mage_instr.specs.declared.party.Party.{Party}
 use Rattle.mage_instr.specs.declared.party.Party.TheVariants as party
 use Rattle.mage_label.specs.declared.labels.Label.{Label}
 use Rattle.mage_label.specs.Labels.{IsWhole, blank, xor}
+use Rattle.mage_driver.specs.declared.standing.Standing.{Standing}
+use Rattle.mage_driver.specs.declared.standing.Standing.TheVariants as standing
 use Rattle.mage_driver.specs.Rules.{Begins, Rules}
 use Rattle.mage_streams.specs.Evaluating.{Evaluator, after_reading, after_taking, after_output, decoded_bits, label_of_and, taken_labels}
 use Rattle.mage_streams.specs.Streams.{new_evaluator}
@@ -60,6 +62,16 @@ pub record StopsAt (from to : Evaluating) (f : DriverFault) (after : Evaluating)
   pub outputs : after.evaluator.outputs ≡ from.evaluator.outputs
   pub behind : Begins from.evaluator.outputs to.evaluator.outputs
   pub cause : ((f ≡ fault.Source) × (from.steady ≡ false)) ⊎ (to.wrong ≡ Some f)
+
+-- How a driver that has failed did so, also where nothing is told: at its source only where that isn't steady, and at no sink.
+abbrev pub FailsAtItsSource : (steady : Bool) → Standing → Type 0
+FailsAtItsSource steady standing.Running = Unit {0}
+FailsAtItsSource steady standing.Finished = Unit {0}
+FailsAtItsSource steady (standing.Failed fault.Source) = steady ≡ false
+FailsAtItsSource steady (standing.Failed fault.Sink) = ⊥
+FailsAtItsSource steady (standing.Failed (fault.Short at)) = Unit {0}
+FailsAtItsSource steady (standing.Failed (fault.Long at)) = Unit {0}
+FailsAtItsSource steady (standing.Failed (fault.Colour at)) = Unit {0}
 
 abbrev pub eval_rules : Rules Label
 eval_rules = record {

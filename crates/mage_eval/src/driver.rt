@@ -1,7 +1,7 @@
 // The driver that evaluates.
 ghost use Rattle.std.specs.Prelude.{◌≡◌, ◌≤◌, ◌<◌, ◌^◌, [], IfErr, IfOk, OnOk, length, unwrap_or};
 ghost use Rattle.mage_driver.specs.declared.standing.Standing.TheVariants as standing;
-ghost use Rattle.mage_eval.specs.Rule.{evaluating_from};
+ghost use Rattle.mage_eval.specs.Rule.{evaluating_from, FailsAtItsSource};
 ghost use Rattle.mage_eval.specs.Reading.{tells_left};
 
 use crate::gates::evaluate_and;
@@ -37,7 +37,7 @@ impl<R: Source> Model for EvalDriver<R> {
     ghost use Rattle.std.specs.Prelude.{◌≡◌, ◌≤◌, ◌<◌, ◌^◌, None, drop, length};
     ghost use Rattle.std.specs.Vec.{vec_capacity};
     ghost use Rattle.mage_driver.specs.Calls.{Told};
-    ghost use Rattle.mage_eval.specs.Rule.{Evaluating};
+    ghost use Rattle.mage_eval.specs.Rule.{Evaluating, FailsAtItsSource};
 
     ghost Value = { Told Evaluating };
 
@@ -61,7 +61,8 @@ impl<R: Source> Model for EvalDriver<R> {
     } };
 
     ghost invariant = { λ d. (d.taken ≤ length d.labels.items) × (d.gates < 2 ^ 63)
-        × (length d.outputs.items ≤ d.room) × (d.room ≤ vec_capacity d.outputs) };
+        × (length d.outputs.items ≤ d.room) × (d.room ≤ vec_capacity d.outputs)
+        × FailsAtItsSource d.stream.steady d.standing };
 }
 
 impl<R: Source> EvalDriver<R> {
@@ -105,10 +106,12 @@ impl<R: Source> EvalDriver<R> {
         self.outputs.as_slice()
     }
 
-    /// Hands the stream back, and what was put out.
+    /// Hands the stream back, and what was put out. Whatever the stream tells: a driver that has failed did so at no sink, and at its
+    /// source only where that isn't steady.
     pub fn close(self) -> (R, Vec<u128>)
         ensures outputs { result.1.items ≡ self.state.evaluator.outputs }
         ensures faults { self.faults ≡ (R.tells result.0).faults }
+        ensures failed { FailsAtItsSource (R.tells result.0).steady self.standing }
     {
         let EvalDriver {
             worker: _,

@@ -83,6 +83,7 @@ impl<R: Source> Stream<R> {
         ensures ended { IfOk result (λ enough. enough ≡ false → IsTrue self.old.told
             → self.new.ready ≡ length self.old.left) }
         ensures told { self.new.told ≡ self.old.told }
+        ensures steady { self.new.steady ≡ self.old.steady }
         ensures fails { (wrong : Option DriverFault) → IfErr result (λ f. Fails wrong self.old self.new f) }
     {
         if count <= self.to - self.from {
@@ -103,6 +104,7 @@ impl<R: Source> Stream<R> {
         ensures ended { IfOk result (λ enough. enough ≡ false → IsTrue self.old.told
             → self.new.ready ≡ length self.old.left) }
         ensures told { self.new.told ≡ self.old.told }
+        ensures steady { self.new.steady ≡ self.old.steady }
         ensures fails { (wrong : Option DriverFault) → IfErr result (λ f. Fails wrong self.old self.new f) }
     {
         self.held.copy_within(self.from..self.to, 0);
@@ -123,6 +125,7 @@ impl<R: Source> Stream<R> {
         ensures rest { OnOk result (self.new ≡ record self.old { left = self.new.left; ready = self.new.ready }) }
         ensures same { OnOk result (IsTrue self.old.told → self.new.left ≡ self.old.left) }
         ensures told { self.new.told ≡ self.old.told }
+        ensures steady { self.new.steady ≡ self.old.steady }
         ensures fails { IfErr result (λ f. Fails (wrong_piece count self.old.at self.old.left) self.old self.new f) }
     {
         match self.hold(count) {

@@ -16,6 +16,7 @@ use mage_label::Label;
 fn read_colour<R: Source>(stream: &mut Stream<R>) -> Result<bool, DriverFault>
     ensures read { IfOk result (λ colour. ReadsColour stream.old stream.new colour) }
     ensures told { stream.new.told ≡ stream.old.told }
+    ensures steady { stream.new.steady ≡ stream.old.steady }
     ensures fails { (wire : Label) → (wires : List Label) → IfErr result
         (λ f. Fails (wrong_at_colours (wire ∷ wires) stream.old.at stream.old.left) stream.old stream.new f) }
 {
@@ -50,6 +51,7 @@ pub(crate) fn read_value<R: Source>(
         → value ≡ number (decoded_bits wires.now stream.old.left)) }
     ensures read { OnOk result (ReadsColours wires.now stream.old stream.new) }
     ensures told { stream.new.told ≡ stream.old.told }
+    ensures steady { stream.new.steady ≡ stream.old.steady }
     ensures fails { IfErr result
         (λ f. Fails (wrong_at_colours wires.now stream.old.at stream.old.left) stream.old stream.new f) }
 {
@@ -69,6 +71,7 @@ pub(crate) fn read_end<R: Source>(stream: &mut Stream<R>) -> Result<(), DriverFa
     ensures rest { OnOk result (stream.new ≡ record stream.old { left = stream.new.left; ready = stream.new.ready }) }
     ensures same { OnOk result (IsTrue stream.old.told → stream.new.left ≡ stream.old.left) }
     ensures told { stream.new.told ≡ stream.old.told }
+    ensures steady { stream.new.steady ≡ stream.old.steady }
     ensures fails { IfErr result
         (λ f. Fails (wrong_at_end stream.old.at stream.old.left) stream.old stream.new f) }
 {
