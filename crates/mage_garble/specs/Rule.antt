@@ -8,6 +8,8 @@ use Rattle.mage_instr.specs.declared.party.Party.TheVariants as party
 use Rattle.mage_label.specs.declared.labels.Label.{Label}
 use Rattle.mage_label.specs.Labels.{IsWhole, xor}
 use Rattle.mage_halfgates.specs.HalfGates.{constant_zero}
+use Rattle.mage_driver.specs.declared.standing.Standing.{Standing}
+use Rattle.mage_driver.specs.declared.standing.Standing.TheVariants as standing
 use Rattle.mage_driver.specs.Rules.{Rules}
 use Rattle.mage_driver.specs.Calls.{And, Input, Output}
 use Rattle.mage_streams.specs.Garbling.{Garbler, offset_in, inputs_of, next_and, after_and, after_input, said_for}
@@ -46,6 +48,12 @@ pub record StopsAt (from to : Garbling) (f : DriverFault) (after : Garbling) : T
   pub sink : f ≡ fault.Sink
   pub puts : to.sending.stream ≡ from.sending.stream ++ from.sending.waiting
   pub failed : HasFailed from.sending after.sending
+
+-- a driver that has failed did so at its sink, also where nothing is told
+abbrev pub FailsAtItsSink : Standing → Type 0
+FailsAtItsSink standing.Running = Unit {0}
+FailsAtItsSink standing.Finished = Unit {0}
+FailsAtItsSink (standing.Failed f) = f ≡ fault.Sink
 
 abbrev pub garble_rules : Rules Label
 garble_rules = record {

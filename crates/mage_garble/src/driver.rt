@@ -6,7 +6,7 @@ ghost use Rattle.mage_driver.specs.Calls.{Asked, Fell, Finish, Input, call_of};
 ghost use Rattle.mage_streams.specs.Garbling.{inputs_of};
 ghost use Rattle.mage_driver.specs.declared.standing.Standing.TheVariants as standing;
 ghost use Rattle.mage_streams.specs.Numbers.{next_value};
-ghost use Rattle.mage_garble.specs.Rule.{garble_rules, garbling_from};
+ghost use Rattle.mage_garble.specs.Rule.{garble_rules, garbling_from, FailsAtItsSink};
 ghost use Rattle.mage_garble.specs.Sending.{tells_taken};
 
 use crate::gates::garble_and;
@@ -40,7 +40,7 @@ impl<K: Sink> Model for GarbleDriver<K> {
     ghost use Rattle.std.specs.Prelude.{◌≡◌, ◌≤◌, ◌<◌, ◌^◌, drop, length};
     ghost use Rattle.mage_driver.specs.Calls.{Told};
     ghost use Rattle.mage_label.specs.Labels.{offset_of};
-    ghost use Rattle.mage_garble.specs.Rule.{Garbling};
+    ghost use Rattle.mage_garble.specs.Rule.{FailsAtItsSink, Garbling};
 
     ghost Value = { Told Garbling };
 
@@ -61,7 +61,7 @@ impl<K: Sink> Model for GarbleDriver<K> {
     } };
 
     ghost invariant = { λ d. (d.offset ≡ offset_of d.seed) × (d.taken ≤ length d.values.items)
-        × (d.wires < 2 ^ 63) × (d.gates < 2 ^ 63) };
+        × (d.wires < 2 ^ 63) × (d.gates < 2 ^ 63) × FailsAtItsSink d.standing };
 }
 
 impl<K: Sink> GarbleDriver<K> {
@@ -138,11 +138,12 @@ impl<K: Sink> GarbleDriver<K> {
     }
 
     /// Hands the sink back: it has a front of what was said, and after `finish` or `flush` all of it. One that told at first
-    /// what it had taken tells so still.
+    /// what it had taken tells so still. A driver that has failed did so at its sink, whatever that tells.
     pub fn close(self) -> K
         ensures stream { self.state.sending.stream ≡ unwrap_or (K.tells result).taken [] }
         ensures told { IsTrue self.told → IsTrue (tells_taken (K.tells result)) }
         ensures faults { self.faults ≡ (K.tells result).faults }
+        ensures sink { FailsAtItsSink self.standing }
     {
         let GarbleDriver {
             seed: _,
