@@ -1,3 +1,4 @@
 pub mod Saying
 mod Failing
 mod Adding
+pub mod Fitting

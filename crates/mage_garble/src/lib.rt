@@ -8,4 +8,4 @@ mod laws;
 mod outgoing;
 
 pub use driver::GarbleDriver;
-pub use laws::law_of_streams;
+pub use laws::{law_of_room, law_of_streams};
