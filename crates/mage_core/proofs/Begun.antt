@@ -1,109 +1,52 @@
 -- Where a run ended, also with a fault, each driver stands between its first state and the end of the joint run over the answers.
-use Rattle.std.proofs.Common.{◌≡◌, ◌++◌, ◌⊎◌, inl, inr, ℕ, List, [], length, Option, None, Some, slice_get, append-nil, refl, sym, ap, ◌∙◌, subst, arith}
+use Rattle.std.proofs.Common.{◌≡◌, ◌++◌, ℕ, List, [], length, Option, None, Some, slice_get, append-nil, refl, sym, ap, ◌∙◌, subst}
 use Rattle.std.specs.Prelude.{IfSome, IsTrue}
 use Rattle.mage_instr.specs.declared.directive.MemProgram.{MemProgram}
 use Rattle.mage_instr.specs.declared.fault.DriverFault.{DriverFault}
-use Rattle.mage_instr.specs.declared.fault.MachineFault.{MachineFault}
 use Rattle.mage_instr.specs.declared.fault.MachineFault.TheVariants as stops
 use Rattle.mage_directives.specs.Directives.{IsMemProgram}
 use Rattle.mage_network.specs.Pasts.{IsPrefix}
 use Rattle.mage_network.specs.Workers.{Worker, Moves, said_in}
-use Rattle.mage_network.specs.Slots.{Acts, Asks, Finishes_read, Finishes_write}
-use Rattle.mage_network.specs.Workers as net
+use Rattle.mage_network.specs.Slots.{Acts}
 use Rattle.mage_network.specs.Answers as answers
 use Rattle.mage_network.specs.Answers.{Answered, IsAlongAnswers, AreAnswered}
 use Rattle.mage_network.specs.Reading.{hears_in}
 use Rattle.mage_network.proofs.Answering.{heard_moved, answered_begin}
 use Rattle.mage_network.proofs.Meeting.{together_keeps}
-use Rattle.mage_driver.specs.Rules.{Rules, AreLawful, Grows}
+use Rattle.mage_driver.specs.Rules.{Rules, AreLawful}
 use Rattle.mage_driver.specs.Calls.{Call, SomeStops}
 use Rattle.mage_link.specs.Queues.{queue_told}
 use Rattle.mage_steps.specs.Frames.{cleared}
-use Rattle.mage_steps.specs.Engines.{Next}
+use Rattle.mage_steps.specs.Engines.{Engine, Next}
 use Rattle.mage_steps.specs.Core.{Flight, core_hearing, flight_at_first, answered_act, answered_after}
-use Rattle.mage_steps.proofs.Outputs.{grows_same, grows_then}
+use Rattle.mage_steps.proofs.Outputs.{grows_then}
 use Rattle.mage_verify.specs.Faults.{fault_of}
 use Rattle.mage_verify.specs.Parts.{parts_of}
 use Rattle.mage_verified_runs.specs.Turns.{verified_turns}
 use Rattle.mage_verified_runs.proofs.Ending.{verified_ends}
 use Rattle.mage_engine.specs.Seen.{Seen, worker_with}
-use Rattle.mage_engine.specs.Steps as steps
-use Rattle.mage_engine.specs.Steps.{heard_in, calls_of, next_with}
+use Rattle.mage_engine.specs.Steps.{heard_in, IsCause, next_with}
 use Rattle.mage_engine.proofs.Calling.{calls_same}
 use Rattle.mage_core.specs.declared.fault.RunFault.{RunFault}
 use Rattle.mage_core.specs.declared.fault.RunFault.TheVariants as fault
 use Rattle.mage_core.specs.Turns.{run_fault}
 use Rattle.mage_core.specs.Going.{Start, HasGone}
-use Rattle.mage_core.specs.Begun.{StandsBetween}
 use Rattle.mage_core.proofs.Starting.{if_found}
 use Rattle.mage_core.proofs.Alike.{answered_ends}
 use Rattle.mage_core.proofs.Joined.{IsOwn, Own, own}
-use Rattle.mage_core.proofs.Answered.{none_beyond}
-use Rattle.mage_core.proofs.Rows.{IsRow, midway, row_one, row_grows, stop_grows, stops_front, stops_later}
+use Rattle.mage_core.proofs.Rows.{IsRow}
 use Rattle.mage_core.proofs.Saying.{answered_row}
-use Rattle.mage_core.proofs.Last.{Last, Was, IsSame, HasStopped, was_grown, first_answers, same_driver}
-
--- a driver that stands at the end of some calls in a row has more to say before it is at the end of all
-pub grows_on : {W : Type 0} (rules : Rules W) → AreLawful rules → (first now last : rules.State) (said all : List (Call rules.State W)) →
-    IsRow rules first said now → IsRow rules first all last → IsPrefix said all → Grows rules now last
-grows_on {W} rules lawful first now last said all row whole begins =
-    let mid = midway rules first last said begins.0 (subst (λ (l : List (Call rules.State W)). IsRow rules first l last) (sym begins.1) whole) in
-    subst (λ (s : rules.State). Grows rules s last) (row_one rules first mid.state now said mid.first row)
-    (row_grows rules lawful mid.state last begins.0 mid.then_on)
-
--- the fault of a driver is that of the run
-pub same_fault : (w : ℕ) (f g : DriverFault) (result : Option RunFault) → result ≡ Some (run_fault w (stops.Driver f)) → result ≡ Some (fault.Driver w g) → f ≡ g
-same_fault w f g result e h = let same : Some (fault.Driver w f) ≡ Some (fault.Driver w g) = sym e ∙ h in cc
-
-pub not_of_driver : (by : MachineFault) → ((f : DriverFault) → by ≡ stops.Driver f → ⊥) → (w : ℕ) (g : DriverFault) (result : Option RunFault) → result ≡ Some (run_fault w by) →
-    result ≡ Some (fault.Driver w g) → ⊥
-not_of_driver stops.Store other w g result e h = absurd (let never : Some (fault.Store w) ≡ Some (fault.Driver w g) = sym e ∙ h in cc)
-not_of_driver (stops.Driver f) other w g result e h = other f refl
-not_of_driver (stops.Damaged damage) other w g result e h = absurd (let never : Some (fault.Damaged w damage) ≡ Some (fault.Driver w g) = sym e ∙ h in cc)
-
--- Where a driver stands that was handed in at the first state and has said these calls of its own run, which leads to the last state.
-pub record EndsAt {W : Type 0} (rules : Rules W) (result : Option RunFault) (worker : ℕ) (first last : rules.State) (said : List (Call rules.State W)) (now : Seen rules.State) : Type 0 where
-  pub between : StandsBetween rules first now.driver.state last
-  pub caused : (f : DriverFault) → result ≡ Some (fault.Driver worker f) → SomeStops rules said f now.driver.state
-
-module _ {W : Type 0} (rules : Rules W) (lawful : AreLawful rules) (result : Option RunFault) (worker : ℕ) (first : rules.State) where
-  -- one that stands where its own run is
-  pub stands_so : (last : rules.State) (said : List (Call rules.State W)) (now : Seen rules.State) → IsRow rules first said last → now.driver.state ≡ last →
-      ((f : DriverFault) → result ≡ Some (fault.Driver worker f) → ⊥) → EndsAt rules result worker first last said now
-  stands_so last said now row at never = record {
-    between = subst (λ (s : rules.State). StandsBetween rules first s last) (sym at)
-        (record { since = row_grows rules lawful first last said row; until = grows_same rules last });
-    caused = λ f e. absurd (never f e);
-  }
-
-  -- one that was stopped at one of the calls that come next
-  pub stopped_so : (mid last : rules.State) (said step : List (Call rules.State W)) (f : DriverFault) (now : Seen rules.State) → IsRow rules first said mid →
-      IsRow rules first (said ++ step) last → SomeStops rules step f now.driver.state → result ≡ Some (run_fault worker (stops.Driver f)) →
-      EndsAt rules result worker first last (said ++ step) now
-  stopped_so mid last said step f now row whole stops is =
-      let way = midway rules first last said step whole in
-      let at : way.state ≡ mid = row_one rules first way.state mid said way.first row in
-      let grown = stop_grows rules lawful way.state last step f now.driver.state way.then_on stops in
-      record {
-        between = record { since = grows_then rules first way.state now.driver.state (row_grows rules lawful first way.state said way.first) grown.0; until = grown.1 };
-        caused = λ g e. subst (λ (x : DriverFault). SomeStops rules (said ++ step) x now.driver.state) (same_fault worker f g result is e)
-            (stops_later rules said step f now.driver.state stops);
-      }
+use Rattle.mage_core.proofs.Last.{Last, Was, was_grown, first_answers, ended_cases, stopped_moves, nobody_beyond}
+use Rattle.mage_core.proofs.Standing.{EndsAt, grows_on, stands_so, stopped_so, stops_more}
 
 module _ {W : Type 0} (rules : Rules W) (lawful : AreLawful rules) (plan : MemProgram) (states : ℕ → rules.State) (starts : List (Start rules.State))
     (parts_so : (w : ℕ) (start : Start rules.State) → slice_get starts w ≡ Some start → slice_get (parts_of plan) w ≡ Some start.part)
     (told_so : (w : ℕ) (start : Start rules.State) → slice_get starts w ≡ Some start → IsTrue start.driver.told)
     (states_so : (w : ℕ) (start : Start rules.State) → slice_get starts w ≡ Some start → states w ≡ start.driver.state)
     (machines : List (Seen rules.State)) (result : Option RunFault) (last : Last rules starts machines result) (count : length machines ≡ length starts) where
-  beyond : (m n : ℕ) → slice_get last.before n ≡ None → (queue_told last.links).sent n m ≡ []
-  beyond m n is =
-      let past = none_beyond last.before n is in
-      let long = last.count in
-      last.quiet n m (omega (arith, past, long, count))
-
   -- the own run of each worker before the last turn
-  was_own : (n : ℕ) → Own rules plan states last.links last.before n
-  was_own = own rules plan states last.links last.before starts last.all parts_so told_so states_so beyond
+  pub was_own : (n : ℕ) → Own rules plan states last.links last.before n
+  was_own = own rules plan states last.links last.before starts last.all parts_so told_so states_so (nobody_beyond rules starts machines result last count)
 
   -- what a worker is to hear: all that its store answered, of which the last answer may have been damaged
   pub heard_at : (n : ℕ) → Option (Seen rules.State) → ℕ → List (List ℕ)
@@ -126,7 +69,7 @@ module _ {W : Type 0} (rules : Rules W) (lawful : AreLawful rules) (plan : MemPr
     along : IsAlongAnswers (core_hearing rules plan n) (flight_at_first rules plan states n) state heard said taken (λ m. (queue_told last.links).sent n m)
     begins : (m : ℕ) → IsPrefix (taken m) ((queue_told last.links).sent m n)
     given : (page : ℕ) → IsPrefix (heard page) (heard_at n found page)
-    of : IfSome found (EndsAt rules result n (states n) state.engine.driver said)
+    of : IfSome found (EndsAt rules result n (states n) state.engine.driver (was_own n).said said)
 
   along_row : (n : ℕ) (state : Flight rules plan) (heard : ℕ → List (List ℕ)) (said : List (Call rules.State W)) (taken sent : ℕ → List (List ℕ)) →
       IsAlongAnswers (core_hearing rules plan n) (flight_at_first rules plan states n) state heard said taken sent → IsRow rules (states n) said state.engine.driver
@@ -168,10 +111,10 @@ module _ {W : Type 0} (rules : Rules W) (lawful : AreLawful rules) (plan : MemPr
     }
 
     -- one that was
-    done_stopped : (f : DriverFault) → result ≡ Some (run_fault n (stops.Driver f)) → (d : Next rules) → next_with rules was.machine of_own.bank ≡ d →
-        SomeStops rules (calls_of rules d) f now.driver.state → Done n (Some now)
+    done_stopped : (f : DriverFault) → result ≡ Some (run_fault n (stops.Driver f)) → (step : List (Call rules.State W)) (to : Engine rules.State) →
+        next_with rules was.machine of_own.bank ≡ Acts (Moves step to) → SomeStops rules step f now.driver.state → Done n (Some now)
     unfolding heard_at
-    done_stopped f e (Acts (Moves step to)) next stopped =
+    done_stopped f e step to next stopped =
         let o = was_own n in
         let after : Flight rules plan = record (worker_with was.machine of_own.bank) { engine = to } in
         let along = heard_moved (core_hearing rules plan n) (flight_at_first rules plan states n) o.state after o.heard o.said step o.taken
@@ -187,33 +130,16 @@ module _ {W : Type 0} (rules : Rules W) (lawful : AreLawful rules) (plan : MemPr
           of = stopped_so rules lawful result n (states n) o.state.engine.driver to.driver o.said step f now (own_row n)
               (along_row n after o.heard (o.said ++ step) o.taken (λ m. (queue_told last.links).sent n m) along) stopped e;
         }
-    done_stopped f e (Acts (net.Sends target wire to)) next stopped = absurd stopped
-    done_stopped f e (Acts (net.Takes source to)) next stopped = absurd stopped
-    done_stopped f e (Acts net.Stops) next stopped = absurd stopped
-    done_stopped f e (Asks slot transfer to) next stopped = absurd stopped
-    done_stopped f e (Finishes_read slot to) next stopped = absurd stopped
-    done_stopped f e (Finishes_write slot to) next stopped = absurd stopped
 
-    done_by : (by : MachineFault) → result ≡ Some (run_fault n by) → (h : HasStopped rules result n was.machine now) → h.by ≡ by → Done n (Some now)
-    done_by stops.Store e h same =
-        done_still (same_driver rules was.machine now h.by (λ f k. absurd (let never : stops.Store ≡ stops.Driver f = sym same ∙ k in cc)) h.cause)
-        (λ f. not_of_driver stops.Store (λ g k. absurd cc) n f result e)
-    done_by (stops.Damaged damage) e h same =
-        done_still (same_driver rules was.machine now h.by (λ f k. absurd (let never : stops.Damaged damage ≡ stops.Driver f = sym same ∙ k in cc)) h.cause)
-        (λ f. not_of_driver (stops.Damaged damage) (λ g k. absurd cc) n f result e)
-    done_by (stops.Driver f) e h same =
-        let fell = (subst (λ (b : MachineFault). steps.IsCause rules was.machine now b) same h.cause).0 in
-        let told = subst IsTrue (sym gone.going.told) (told_so n gone.start gone.from) in
-        done_stopped f e (next_with rules was.machine of_own.bank) refl
+    done_caused : (f : DriverFault) → result ≡ Some (run_fault n (stops.Driver f)) → IsCause rules was.machine now (stops.Driver f) → Done n (Some now)
+    done_caused f e cause =
+        stopped_moves rules (Done n (Some now)) (next_with rules was.machine of_own.bank) f now.driver.state
         (subst (λ (l : List (Call rules.State W)). SomeStops rules l f now.driver.state)
-        (sym (calls_same rules was.machine gone.going.sound of_own.bank of_own.holds)) (fell.stopped told))
-
-    done_ended : IsSame result n was.machine now ⊎ HasStopped rules result n was.machine now → Done n (Some now)
-    done_ended (inl h) = done_still (ap (λ (m : Seen rules.State). m.driver.state) h.same) h.unstopped
-    done_ended (inr h) = done_by h.by h.is h refl
+        (sym (calls_same rules was.machine gone.going.sound of_own.bank of_own.holds))
+        (cause.0.stopped (subst IsTrue (sym gone.going.told) (told_so n gone.start gone.from)))) (done_stopped f e)
 
     done_found : Done n (Some now)
-    done_found = done_ended was.ended
+    done_found = ended_cases rules result n was.machine now (Done n (Some now)) done_still done_caused was.ended
 
   done_none : (n : ℕ) → Done n None
   unfolding heard_at
@@ -257,14 +183,14 @@ module _ {W : Type 0} (rules : Rules W) (lawful : AreLawful rules) (plan : MemPr
       (verified_turns plan.workers)).0.alone n)
 
   pub ends_answered : IsMemProgram plan → fault_of plan ≡ None → (n : ℕ) (now : Seen rules.State) → slice_get machines n ≡ Some now →
-      EndsAt rules result n (states n) (whole n).state.state.engine.driver (said_in (whole n).past) now
+      EndsAt rules result n (states n) (whole n).state.state.engine.driver (was_own n).said (said_in (whole n).past) now
   ends_answered fine none n now is =
       let begins : answers.BeginsAnswered (core_hearing rules plan n) (whole n) (done n).state (done n).said (λ m. (queue_told last.links).sent n m) =
       answered_begin (Some (cleared rules plan.limits.page)) (core_hearing rules plan) (flight_at_first rules plan states)
       (λ n. (done n).state) answers_to (λ n. (done n).heard) (λ n. (done n).said) (λ n. (done n).taken) (λ n m. (queue_told last.links).sent n m)
       (verified_turns plan.workers) went n (answered_ends rules plan states answers_to (verified_turns plan.workers) n (verified_ends rules plan states fine none n)) in
       let d = done n in
-      let at = if_found (EndsAt rules result n (states n) d.state.engine.driver d.said) (slice_get machines n) now is d.of in
+      let at = if_found (EndsAt rules result n (states n) d.state.engine.driver (was_own n).said d.said) (slice_get machines n) now is d.of in
       let row = along_row n d.state d.heard d.said d.taken (λ m. (queue_told last.links).sent n m) d.along in
       record {
         between = record {
@@ -272,6 +198,5 @@ module _ {W : Type 0} (rules : Rules W) (lawful : AreLawful rules) (plan : MemPr
           until = grows_then rules now.driver.state d.state.engine.driver (whole n).state.state.engine.driver at.between.until
               (grows_on rules lawful (states n) d.state.engine.driver (whole n).state.state.engine.driver d.said (said_in (whole n).past) row (whole_row n) begins.says);
         };
-        caused = λ f e. subst (λ (l : List (Call rules.State W)). SomeStops rules l f now.driver.state) begins.says.1
-            (stops_front rules d.said begins.says.0 f now.driver.state (at.caused f e));
+        caused = λ f e. stops_more rules (was_own n).said d.said (said_in (whole n).past) f now.driver.state begins.says (at.caused f e);
       }

@@ -9,7 +9,8 @@ use Rattle.sha2.specs.Sha256.{sha256}
 use Rattle.mage_driver.specs.Rules.{Rules}
 use Rattle.mage_driver.specs.Calls.{Told}
 use Rattle.mage_link.specs.Queues.{QueueState}
-use Rattle.mage_port.specs.Port.{SlotState, Idle, AskedRead, AskedWrite, HasFailed, IsDamaged, slot_state, last_written_after}
+use Rattle.mage_network.specs.Pasts.{IsPrefix}
+use Rattle.mage_port.specs.Port.{Transfers, SlotState, Idle, AskedRead, AskedWrite, HasFailed, IsDamaged, slot_state, last_written_after}
 use Rattle.mage_store.specs.SerialPort.{transfers_of}
 use Rattle.mage_store.specs.SealedPort.{AreSealed, AreSealedAfter, is_damaged_at}
 use Rattle.mage_core.specs.Ports.{RunMachine, port_tells, store_of, CameBy}
@@ -81,14 +82,14 @@ decide written (Answered page bytes ∷ xs) = go (same_list bytes written) (deci
     go (inr ne) h = inr (record { before = []; after = xs; page = page; bytes = bytes; is = refl; other = ne })
 
 -- where all are right, none is wrong
-never_wrong : (written : List ℕ) (before after : List Transfer) (page : ℕ) (bytes : List ℕ) → AreRightAfter written (before ++ Answered page bytes ∷ after) →
+pub never_wrong : (written : List ℕ) (before after : List Transfer) (page : ℕ) (bytes : List ℕ) → AreRightAfter written (before ++ Answered page bytes ∷ after) →
     bytes ≡ last_written_after written before
 never_wrong written [] after page bytes h = h.0
 never_wrong written (Wrote p b ∷ before) after page bytes h = never_wrong b before after page bytes h
 never_wrong written (Answered p b ∷ before) after page bytes h = never_wrong written before after page bytes h.1
 
 -- where all are sealed, one that is wrong has the same digest
-sealed_there : (written : List ℕ) (before after : List Transfer) (page : ℕ) (bytes : List ℕ) → AreSealedAfter written (before ++ Answered page bytes ∷ after) →
+pub sealed_there : (written : List ℕ) (before after : List Transfer) (page : ℕ) (bytes : List ℕ) → AreSealedAfter written (before ++ Answered page bytes ∷ after) →
     sha256 bytes ≡ sha256 (last_written_after written before)
 sealed_there written [] after page bytes h = h.0
 sealed_there written (Wrote p b ∷ before) after page bytes h = sealed_there b before after page bytes h
@@ -127,34 +128,46 @@ none_past (Wrote page bytes ∷ made) p past =
 none_past (Answered page bytes ∷ made) p past =
     ap (λ b. cond b (Answered page bytes ∷ transfers_of made p) (transfers_of made p)) (off_page p page (bound made) past) ∙ none_past made p (omega (arith, past))
 
--- some page has a wrong answer
-pub record SomeWrong (made : List Transfer) : Type 0 where
+-- some page has a wrong answer among these transfers
+pub record SomeWrong (lists : Transfers) : Type 0 where
   pub page : ℕ
-  pub wrong : IsWrong [] (transfers_of made page)
+  pub wrong : IsWrong [] (lists page)
 
-decide_below : (made : List Transfer) (count : ℕ) → ((p : ℕ) → p < count → AreRightAfter [] (transfers_of made p)) ⊎ SomeWrong made
-decide_below made zero = inl (λ p less. absurd (omega (arith, less)))
-decide_below made (suc count) = go (decide_below made count) (decide [] (transfers_of made count))
+decide_below : (lists : Transfers) (count : ℕ) → ((p : ℕ) → p < count → AreRightAfter [] (lists p)) ⊎ SomeWrong lists
+decide_below lists zero = inl (λ p less. absurd (omega (arith, less)))
+decide_below lists (suc count) = go (decide_below lists count) (decide [] (lists count))
   where
-    go : ((p : ℕ) → p < count → AreRightAfter [] (transfers_of made p)) ⊎ SomeWrong made → AreRightAfter [] (transfers_of made count) ⊎ IsWrong [] (transfers_of made count) →
-        ((p : ℕ) → p < suc count → AreRightAfter [] (transfers_of made p)) ⊎ SomeWrong made
+    go : ((p : ℕ) → p < count → AreRightAfter [] (lists p)) ⊎ SomeWrong lists → AreRightAfter [] (lists count) ⊎ IsWrong [] (lists count) →
+        ((p : ℕ) → p < suc count → AreRightAfter [] (lists p)) ⊎ SomeWrong lists
     go (inr w) h = inr w
     go (inl below) (inr w) = inr (record { page = count; wrong = w })
     go (inl below) (inl here) = inl (λ p less. at p less (p == count) refl)
       where
-        at : (p : ℕ) → p < suc count → (b : Bool) → (p == count) ≡ b → AreRightAfter [] (transfers_of made p)
-        at p less true e = subst (λ k. AreRightAfter [] (transfers_of made k)) (sym (eqb-true p count e)) here
+        at : (p : ℕ) → p < suc count → (b : Bool) → (p == count) ≡ b → AreRightAfter [] (lists p)
+        at p less true e = subst (λ k. AreRightAfter [] (lists k)) (sym (eqb-true p count e)) here
         at p less false e = below p (let apart : p ≡ count → ⊥ = eqb-false p count e in omega (arith, less, apart))
 
-decide_all : (made : List Transfer) → AllRight (transfers_of made) ⊎ SomeWrong made
-decide_all made = go (decide_below made (bound made))
+-- where there are none past some page
+decide_lists : (lists : Transfers) (count : ℕ) → ((p : ℕ) → count ≤ p → lists p ≡ []) → AllRight lists ⊎ SomeWrong lists
+decide_lists lists count none = go (decide_below lists count)
   where
-    go : ((p : ℕ) → p < bound made → AreRightAfter [] (transfers_of made p)) ⊎ SomeWrong made → AllRight (transfers_of made) ⊎ SomeWrong made
+    go : ((p : ℕ) → p < count → AreRightAfter [] (lists p)) ⊎ SomeWrong lists → AllRight lists ⊎ SomeWrong lists
     go (inr w) = inr w
-    go (inl below) = inl (λ p. elim (cases_lt p (bound made)) [
+    go (inl below) = inl (λ p. elim (cases_lt p count) [
       | inl less ↦ below p less
-      | inr past ↦ subst (λ (xs : List Transfer). AreRightAfter [] xs) (sym (none_past made p past)) tt
+      | inr past ↦ subst (λ (xs : List Transfer). AreRightAfter [] xs) (sym (none p past)) tt
     ])
+
+decide_all : (made : List Transfer) → AllRight (transfers_of made) ⊎ SomeWrong (transfers_of made)
+decide_all made = decide_lists (transfers_of made) (bound made) (none_past made)
+
+none_before : (xs ys : List Transfer) → IsPrefix xs ys → ys ≡ [] → xs ≡ []
+none_before [] ys begins e = refl
+none_before (x ∷ xs) ys begins e = absurd (let never : x ∷ (xs ++ begins.0) ≡ [] = begins.1 ∙ e in cc)
+
+-- of the first of these
+pub decide_first : (made : List Transfer) (lists : Transfers) → ((p : ℕ) → IsPrefix (lists p) (transfers_of made p)) → AllRight lists ⊎ SomeWrong lists
+decide_first made lists begins = decide_lists lists (bound made) (λ p past. none_before (lists p) (transfers_of made p) (begins p) (none_past made p past))
 
 -- ---- all machines
 
@@ -163,7 +176,7 @@ pub record SomeDeceived {D S : Type 0} (machines : List (RunMachine D S)) : Type
   pub worker : ℕ
   pub machine : RunMachine D S
   pub at : slice_get machines worker ≡ Some machine
-  pub wrong : SomeWrong machine.port.port.made
+  pub wrong : SomeWrong (transfers_of machine.port.port.made)
 
 none_there : {X : Type 0} (w : ℕ) (x : X) → slice_get [] w ≡ Some x → ⊥
 none_there zero x e = cc
@@ -174,7 +187,7 @@ pub decide_machines : {D S : Type 0} (machines : List (RunMachine D S)) →
 decide_machines {D} {S} [] = inl (λ w m e. absurd (none_there w m e))
 decide_machines {D} {S} (machine ∷ machines) = go (decide_all machine.port.port.made) (decide_machines machines)
   where
-    go : AllRight (transfers_of machine.port.port.made) ⊎ SomeWrong machine.port.port.made →
+    go : AllRight (transfers_of machine.port.port.made) ⊎ SomeWrong (transfers_of machine.port.port.made) →
         ((w : ℕ) (m : RunMachine D S) → slice_get machines w ≡ Some m → AllRight (transfers_of m.port.port.made)) ⊎ SomeDeceived machines →
         ((w : ℕ) (m : RunMachine D S) → slice_get (machine ∷ machines) w ≡ Some m → AllRight (transfers_of m.port.port.made)) ⊎ SomeDeceived (machine ∷ machines)
     go (inr w) others = inr (record { worker = 0; machine = machine; at = refl; wrong = w })
@@ -185,14 +198,14 @@ decide_machines {D} {S} (machine ∷ machines) = go (decide_all machine.port.por
         at zero m e = let same : machine ≡ m = cc in subst (λ (x : RunMachine D S). AllRight (transfers_of x.port.port.made)) same here
         at (suc w) m e = others w m e
 
-undamaged : (page : ℕ) (state : SlotState) → is_sound state ≡ true → is_damaged_at page state ≡ false
+pub undamaged : (page : ℕ) (state : SlotState) → is_sound state ≡ true → is_damaged_at page state ≡ false
 undamaged page Idle s = refl
 undamaged page (AskedRead asked) s = refl
 undamaged page (AskedWrite asked bytes) s = refl
 undamaged page (HasFailed asked) s = refl
 undamaged page (IsDamaged damage) s = absurd cc
 
-untold_so : (o p : Option Pages) → is_some p ≡ is_some o → (IsSome p → ⊥) → o ≡ None
+pub untold_so : (o p : Option Pages) → is_some p ≡ is_some o → (IsSome p → ⊥) → o ≡ None
 untold_so None p e never = refl
 untold_so (Some told) p e never = absurd (never e)
 

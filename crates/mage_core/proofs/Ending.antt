@@ -85,7 +85,7 @@ failed_slot before after slot (HasFailed page) is sound h = absurd cc
 failed_slot before after slot (IsDamaged damage) is sound h = absurd h
 
 -- a slot over which damage was found is damaged
-damaged_slot : (before after : PortTold) (slot : ℕ) (damage : Damage) (state : SlotState) → state ≡ slot_state before slot → is_sound state ≡ true →
+pub damaged_slot : (before after : PortTold) (slot : ℕ) (damage : Damage) (state : SlotState) → state ≡ slot_state before slot → is_sound state ≡ true →
     Spoils before after slot damage state → (slot_state after slot ≡ IsDamaged damage) × (after.handed_in ≡ before.handed_in)
 damaged_slot before after slot damage Idle is sound h = absurd h
 damaged_slot before after slot damage (AskedRead page) is sound h = (

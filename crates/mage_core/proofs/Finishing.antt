@@ -22,9 +22,10 @@ use Rattle.mage_directives.specs.Directives.{IsMemProgram}
 use Rattle.mage_verify.specs.Faults.{fault_of}
 use Rattle.mage_core.specs.Answered.{AreStates, AreTold, RunsAnswered}
 use Rattle.mage_core.specs.Joined.{RunsJoint, WasDeceived}
-use Rattle.mage_core.specs.Begun.{BeginsAnswered}
+use Rattle.mage_core.specs.Begun.{BeginsAnswered, BeginsJoint}
 use Rattle.mage_core.proofs.Answered.{runs_answered}
 use Rattle.mage_core.proofs.Beginning.{begins_answered}
+use Rattle.mage_core.proofs.Trusting.{begins_or_deceived}
 use Rattle.mage_core.proofs.Grown.{stays_so}
 use Rattle.mage_core.proofs.Either.{joint_or_deceived}
 use Rattle.mage_core.proofs.Whole.{map_reverse, all_reverse, starts_so, comes_so}
@@ -145,8 +146,19 @@ module _ {W D S : Type 0} (rules : Rules W) (driver_tells : D → Told rules.Sta
         BeginsAnswered rules plan states starts (map driver_tells drivers) (map (λ shelf. map store_tells shelf) (shelves stores)) result
     begins_answered_end lawful links result came ends count plan fine sound parts states are told =
         back_end (λ ds ss. BeginsAnswered rules plan states starts ds ss result)
-        (begins_answered rules lawful driver_tells store_tells starts (reverse ms) (all_reverse (CameBy store_tells) ms came) (length-reverse ms ∙ count)
-        plan fine sound parts states are told links result ends)
+        (begins_answered rules driver_tells store_tells starts (reverse ms) links result ends (all_reverse (CameBy store_tells) ms came)
+        lawful (length-reverse ms ∙ count) plan fine sound parts states are told)
+
+    pub begins_end : AreLawful rules → (links : QueueState) (result : Option RunFault) → All (CameBy store_tells) ms →
+        EndsAs rules starts (sights driver_tells store_tells (reverse ms)) links result → length ms ≡ length starts →
+        (plan : MemProgram) → IsMemProgram plan → fault_of plan ≡ None → map (λ (start : Start rules.State). start.part) starts ≡ parts_of plan →
+        (states : ℕ → rules.State) → AreStates starts states → AreTold starts →
+        BeginsJoint rules plan states starts (map driver_tells drivers) (map (λ shelf. map store_tells shelf) (shelves stores)) result
+        ⊎ WasDeceived starts (map driver_tells drivers) (map (λ shelf. map store_tells shelf) (shelves stores))
+    begins_end lawful links result came ends count plan fine sound parts states are told =
+        back_end (λ ds ss. BeginsJoint rules plan states starts ds ss result ⊎ WasDeceived starts ds ss)
+        (begins_or_deceived rules driver_tells store_tells starts (reverse ms) links result ends (all_reverse (CameBy store_tells) ms came)
+        lawful (length-reverse ms ∙ count) plan fine sound parts states are told)
 
     pub ones_end : map (λ (shelf : List S). length shelf) (shelves stores) ≡ replicate (length ms) 1
     ones_end = ap (map (λ (shelf : List S). length shelf)) stores_end ∙ ones (λ (m : RunMachine D S). store_of m) (reverse ms)

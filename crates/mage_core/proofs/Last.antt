@@ -7,17 +7,23 @@ use Rattle.mage_instr.specs.declared.fault.DriverFault.{DriverFault}
 use Rattle.mage_instr.specs.declared.fault.MachineFault.{MachineFault}
 use Rattle.mage_instr.specs.declared.fault.MachineFault.TheVariants as stops
 use Rattle.mage_network.specs.Pasts.{IsPrefix}
+use Rattle.mage_network.specs.Workers as net
+use Rattle.mage_network.specs.Workers.{Moves}
+use Rattle.mage_network.specs.Slots.{Acts, Asks, Finishes_read, Finishes_write}
+use Rattle.mage_steps.specs.Engines.{Engine, Next}
 use Rattle.mage_driver.specs.Rules.{Rules}
-use Rattle.mage_link.specs.Queues.{QueueState}
+use Rattle.mage_driver.specs.Calls.{Call, SomeStops}
+use Rattle.mage_link.specs.Queues.{QueueState, queue_told}
 use Rattle.mage_port.specs.Port.{PortTold, SlotState, Idle, AskedRead, AskedWrite, HasFailed, IsDamaged, slot_state, with_transfer, Fails, Spoils}
 use Rattle.mage_engine.specs.Seen.{Seen}
-use Rattle.mage_engine.specs.Steps.{IsCause, IsFall, answers_in}
+use Rattle.mage_engine.specs.Steps.{IsCause, IsFall, answers_in, calls_of}
 use Rattle.mage_core.specs.declared.fault.RunFault.{RunFault}
 use Rattle.mage_core.specs.declared.fault.RunFault.TheVariants as fault
 use Rattle.mage_core.specs.Turns.{run_fault, Falls}
 use Rattle.mage_core.specs.Going.{Start, HasGone, AllGo, NoOthersSend, EndsAs}
 use Rattle.mage_core.proofs.Starting.{if_found}
 use Rattle.mage_core.proofs.Whole.{some_one}
+use Rattle.mage_core.proofs.Answered.{none_beyond}
 
 -- ---- lists
 
@@ -108,11 +114,43 @@ cause_grown rules was now (stops.Driver f) h = same_lists was.port now.port (ap 
 cause_grown rules was now (stops.Damaged damage) h = spoils_grown was.port now.port h.0 damage (slot_state was.port h.0) h.2
 
 -- a driver that didn't stop stands where it stood
-pub same_driver : {W : Type 0} (rules : Rules W) (was now : Seen rules.State) → (by : MachineFault) → ((f : DriverFault) → by ≡ stops.Driver f → ⊥) →
+same_driver : {W : Type 0} (rules : Rules W) (was now : Seen rules.State) → (by : MachineFault) → ((f : DriverFault) → by ≡ stops.Driver f → ⊥) →
     IsCause rules was now by → now.driver.state ≡ was.driver.state
 same_driver rules was now stops.Store other h = ap (λ (m : Seen rules.State). m.driver.state) h.3
 same_driver rules was now (stops.Driver f) other h = absurd (other f refl)
 same_driver rules was now (stops.Damaged damage) other h = ap (λ (m : Seen rules.State). m.driver.state) h.3
+
+not_of_driver : (by : MachineFault) → ((f : DriverFault) → by ≡ stops.Driver f → ⊥) → (w : ℕ) (g : DriverFault) (result : Option RunFault) →
+    result ≡ Some (run_fault w by) → result ≡ Some (fault.Driver w g) → ⊥
+not_of_driver stops.Store other w g result e h = absurd (let never : Some (fault.Store w) ≡ Some (fault.Driver w g) = sym e ∙ h in cc)
+not_of_driver (stops.Driver f) other w g result e h = other f refl
+not_of_driver (stops.Damaged damage) other w g result e h = absurd (let never : Some (fault.Damaged w damage) ≡ Some (fault.Driver w g) = sym e ∙ h in cc)
+
+-- by whether the driver was stopped
+pub ended_cases : {W : Type 0} (rules : Rules W) (result : Option RunFault) (worker : ℕ) (was now : Seen rules.State) (P : Type 0) →
+    (now.driver.state ≡ was.driver.state → ((f : DriverFault) → result ≡ Some (fault.Driver worker f) → ⊥) → P) →
+    ((f : DriverFault) → result ≡ Some (run_fault worker (stops.Driver f)) → IsCause rules was now (stops.Driver f) → P) →
+    IsSame result worker was now ⊎ HasStopped rules result worker was now → P
+ended_cases rules result worker was now P still stopped (inl h) = still (ap (λ (m : Seen rules.State). m.driver.state) h.same) h.unstopped
+ended_cases rules result worker was now P still stopped (inr h) = by_fault h.by h.is h.cause
+  where
+    by_fault : (by : MachineFault) → result ≡ Some (run_fault worker by) → IsCause rules was now by → P
+    by_fault stops.Store e cause =
+        still (same_driver rules was now stops.Store (λ f k. absurd cc) cause) (λ f. not_of_driver stops.Store (λ g k. absurd cc) worker f result e)
+    by_fault (stops.Driver f) e cause = stopped f e cause
+    by_fault (stops.Damaged damage) e cause =
+        still (same_driver rules was now (stops.Damaged damage) (λ f k. absurd cc) cause) (λ f. not_of_driver (stops.Damaged damage) (λ g k. absurd cc) worker f result e)
+
+-- a driver is stopped only where the engine moves
+pub stopped_moves : {W : Type 0} (rules : Rules W) (P : Type 0) (d : Next rules) (f : DriverFault) (after : rules.State) → SomeStops rules (calls_of rules d) f after →
+    ((step : List (Call rules.State W)) (to : Engine rules.State) → d ≡ Acts (Moves step to) → SomeStops rules step f after → P) → P
+stopped_moves rules P (Acts (Moves step to)) f after stopped goes = goes step to refl stopped
+stopped_moves rules P (Acts (net.Sends target wire to)) f after stopped goes = absurd stopped
+stopped_moves rules P (Acts (net.Takes source to)) f after stopped goes = absurd stopped
+stopped_moves rules P (Acts net.Stops) f after stopped goes = absurd stopped
+stopped_moves rules P (Asks slot transfer to) f after stopped goes = absurd stopped
+stopped_moves rules P (Finishes_read slot to) f after stopped goes = absurd stopped
+stopped_moves rules P (Finishes_write slot to) f after stopped goes = absurd stopped
 
 -- ---- all machines
 
@@ -184,3 +222,11 @@ module _ {W : Type 0} (rules : Rules W) where
       was = λ w now at. record { machine = now; at = at; ended = inl (record { same = refl; unstopped = λ f e. absurd cc }) };
     }
     last_of machines links (Some found) ends = falls_last machines links found ends.0 ends.1 ends.2 ends.3 ends.4
+
+    -- beside the workers nobody sent
+    pub nobody_beyond : (machines : List (Seen rules.State)) (result : Option RunFault) (last : Last machines result) → length machines ≡ length starts →
+        (m n : ℕ) → slice_get last.before n ≡ None → (queue_told last.links).sent n m ≡ []
+    nobody_beyond machines result last count m n is =
+        let past = none_beyond last.before n is in
+        let long = last.count in
+        last.quiet n m (omega (arith, past, long, count))

@@ -25,7 +25,10 @@ mod Reaching
 mod Rows
 mod Saying
 mod Last
+mod Standing
 mod Begun
 mod Beginning
+mod Fronts
+mod Trusting
 mod Finishing
 mod Lending

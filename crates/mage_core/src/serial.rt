@@ -12,7 +12,7 @@ ghost use Rattle.mage_core.specs.Turns.{sights};
 ghost use Rattle.mage_core.specs.Results.{starts_of, AllStay, Back, ComesTo};
 ghost use Rattle.mage_core.specs.Answered.{AreStates, AreTold, RunsAnswered};
 ghost use Rattle.mage_core.specs.Joined.{RunsJoint, WasDeceived};
-ghost use Rattle.mage_core.specs.Begun.{BeginsAnswered};
+ghost use Rattle.mage_core.specs.Begun.{BeginsAnswered, BeginsJoint};
 ghost use Rattle.mage_core.specs.Steady.{Suffices, IsNotOfStore, IsNotOfDriver, TellsAlike};
 ghost use Rattle.mage_base.specs.declared.failure.Damage.{Damage};
 ghost use Rattle.mage_instr.specs.declared.fault.DriverFault.{DriverFault};
@@ -102,7 +102,9 @@ fn run_all<D: Driver, S: Store>(
 /// ended, or where one is stopped. A worker's fault is the first that a turn meets, which isn't always the first in the
 /// verifier's order: one that sends goes on while its link has room. Where each store suffices for its part no run stops for a
 /// store, and whatever a run comes to, a store has the pages that it had. Without a fault, and where all drivers are told, each
-/// stands where the joint run ends, unless a store gave back another page of the same digest. Nothing is said of how long it takes.
+/// stands where the joint run ends, unless a store gave back another page of the same digest. With a fault but `Memory` what each
+/// put out and wrote begins what it does there, and a driver that was stopped was so in a call of that run. Nothing is said of how
+/// long it takes.
 pub fn solo<D: Driver, S: Store>(
     alloc: Global,
     parts: Vec<Part>,
@@ -169,6 +171,21 @@ pub fn solo<D: Driver, S: Store>(
         (map (λ shelf. map S.tells shelf) (shelves stores.items)))
         (map D.tells result.drivers.items)
         (map (λ shelf. map S.tells shelf) (shelves result.stores.items)) result.fault }
+    ensures begins { (plan : MemProgram) (states : ℕ → D.rules.State) → IsMemProgram plan
+        → parts.items ≡ parts_of plan
+        → AreStates (starts_of parts.items (map D.tells drivers.items)
+        (map (λ shelf. map S.tells shelf) (shelves stores.items))) states
+        → AreTold (starts_of parts.items (map D.tells drivers.items)
+        (map (λ shelf. map S.tells shelf) (shelves stores.items)))
+        → (result.fault ≡ Some fault.Memory → ⊥) → BeginsJoint D.rules plan states
+        (starts_of parts.items (map D.tells drivers.items)
+        (map (λ shelf. map S.tells shelf) (shelves stores.items)))
+        (map D.tells result.drivers.items)
+        (map (λ shelf. map S.tells shelf) (shelves result.stores.items)) result.fault
+        ⊎ WasDeceived (starts_of parts.items (map D.tells drivers.items)
+        (map (λ shelf. map S.tells shelf) (shelves stores.items)))
+        (map D.tells result.drivers.items)
+        (map (λ shelf. map S.tells shelf) (shelves result.stores.items)) }
     ensures steady { ((w : ℕ) → IfSome (slice_get
         (starts_of parts.items (map D.tells drivers.items)
         (map (λ shelf. map S.tells shelf) (shelves stores.items))) w) Suffices)

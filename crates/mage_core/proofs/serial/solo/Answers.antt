@@ -10,7 +10,7 @@ use Rattle.mage_core.specs.Ports.{CameBy}
 use Rattle.mage_core.specs.Turns.{sights}
 use Rattle.mage_core.specs.Steady.{IsNotOfStore, IsNotOfDriver, TellsAlike}
 use Rattle.mage_core.proofs.Sufficing.{steady_end, untold_end, unfailing_end, faults_end, alike_end, back_same, alike_same}
-use Rattle.mage_core.proofs.Finishing.{back_end, comes_end, stays_end, answered_end, joint_end, begins_answered_end, ones_end, ones_given, starts_parts, told_lengths, by_memory}
+use Rattle.mage_core.proofs.Finishing.{back_end, comes_end, stays_end, answered_end, joint_end, begins_answered_end, begins_end, ones_end, ones_given, starts_parts, told_lengths, by_memory}
 use Rattle.mage_core.proofs.Whole.{all_reverse, but_for_memory}
 use Rattle.mage_core.proofs.Grown.{same_all}
 use Rattle.mage_core.proofs.Lending.{some_parts, few_parts, end_count}
@@ -133,6 +133,25 @@ returns-clause-begins_answered g c plan states fine same are told not =
     let long : length starts ≡ length c.args.parts.items = sym (length-map starts (λ (start : Start g.D.Driver.rules.State). start.part)) ∙ ap length parts_are in
     let count : length c.run_all-fault.new.machines.items ≡ length starts = omega (arith, empty, total, drivers, long) in
     begins_answered_end g.D.Driver.rules g.D.Driver.tells g.S.Store.tells starts c.run_all-fault.new.machines.items c.run_all-fault.new.drivers.items
+    c.close_all.new.drivers.items c.run_all-fault.new.stores.items c.close_all.new.stores.items c.close_all.ensures.drivers c.close_all.ensures.stores ran.0
+    g.met.D.Driver.lawful c.run_all-fault.new.link c.run_all-fault.result c.close_all.ensures.came ran.1 count plan fine
+    (subst (λ (ps : List WorkerPart). fault_in ps ≡ None) same c.requires.verified.none) (parts_are ∙ same) states are told
+
+pub returns-clause-begins : goal.returns-clause-begins
+returns-clause-begins g c plan states fine same are told not =
+    let starts = starts_of c.args.parts.items (map g.D.Driver.tells c.args.drivers.items) (map (λ shelf. map g.S.Store.tells shelf) (shelves c.args.stores.items)) in
+    let ran = c.run_all-fault.ensures.ran not in
+    let parts_are : map (λ (start : Start g.D.Driver.rules.State). start.part) starts ≡ c.args.parts.items =
+    starts_parts c.args.parts.items (map g.D.Driver.tells c.args.drivers.items) (map (λ shelf. map g.S.Store.tells shelf) (shelves c.args.stores.items))
+    (length-map c.args.drivers.items g.D.Driver.tells ∙ c.requires.drivers)
+    (told_lengths g.S.Store.tells (shelves c.args.stores.items)
+    ∙ ones_given g.D.Driver.WIRE_BYTES g.S.Store.tells c.args.parts.items c.args.stores.items c.requires.stores c.requires.suits) in
+    let empty : length c.run_all-fault.new.drivers.items ≡ 0 = ap length ran.0 in
+    let total = c.run_all-fault.ensures.total in
+    let drivers = c.requires.drivers in
+    let long : length starts ≡ length c.args.parts.items = sym (length-map starts (λ (start : Start g.D.Driver.rules.State). start.part)) ∙ ap length parts_are in
+    let count : length c.run_all-fault.new.machines.items ≡ length starts = omega (arith, empty, total, drivers, long) in
+    begins_end g.D.Driver.rules g.D.Driver.tells g.S.Store.tells starts c.run_all-fault.new.machines.items c.run_all-fault.new.drivers.items
     c.close_all.new.drivers.items c.run_all-fault.new.stores.items c.close_all.new.stores.items c.close_all.ensures.drivers c.close_all.ensures.stores ran.0
     g.met.D.Driver.lawful c.run_all-fault.new.link c.run_all-fault.result c.close_all.ensures.came ran.1 count plan fine
     (subst (λ (ps : List WorkerPart). fault_in ps ≡ None) same c.requires.verified.none) (parts_are ∙ same) states are told
