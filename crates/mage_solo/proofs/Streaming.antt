@@ -10,9 +10,11 @@ use Rattle.mage_base.specs.Sink.{SinkTold}
 use Rattle.mage_base.specs.declared.failure.Damage.{Damage}
 use Rattle.mage_base.specs.Store.{StoreTold}
 use Rattle.mage_instr.specs.declared.fault.DriverFault.{DriverFault}
+use Rattle.mage_instr.specs.declared.fault.DriverFault.TheVariants as broken
 use Rattle.mage_instr.specs.declared.directive.MemProgram.{MemProgram}
 use Rattle.mage_directives.specs.Directives.{IsMemProgram}
 use Rattle.mage_driver.specs.declared.standing.Standing.TheVariants as standing
+use Rattle.mage_driver.specs.declared.standing.Standing.{Standing}
 use Rattle.mage_driver.specs.Calls.{Told, RoseFor}
 use Rattle.mage_linked.specs.declared.emitted.Emitted.{Emitted}
 use Rattle.mage_linked.specs.Emission.{program_of}
@@ -21,7 +23,7 @@ use Rattle.mage_verify.specs.Faults.{fault_of}
 use Rattle.mage_verify.specs.Parts.{WorkerPart, parts_of}
 use Rattle.mage_verify.specs.Runs.{AreVerified}
 use Rattle.mage_streams.specs.Streams.{garbled_stream}
-use Rattle.mage_garble.specs.Rule.{Garbling, garble_rules}
+use Rattle.mage_garble.specs.Rule.{Garbling, FailsAtItsSink, garble_rules}
 use Rattle.mage_garble.specs.Sending.{tells_taken}
 use Rattle.mage_carried.specs.Laws.{CanRun, Carries}
 use Rattle.mage_carried.proofs.Starting.{carried_so}
@@ -33,13 +35,14 @@ use Rattle.mage_core.specs.Answered.{AreStates, AreTold}
 use Rattle.mage_core.specs.Going.{Start}
 use Rattle.mage_core.specs.Joined.{RunsJoint, WasDeceived}
 use Rattle.mage_core.specs.Results.{starts_of, Back, AllStay, ComesTo}
+use Rattle.mage_core.specs.Steady.{IsNotOfStore}
 use Rattle.mage_core.specs.declared.fault.RunFault.{RunFault}
 use Rattle.mage_core.specs.declared.fault.RunFault.TheVariants as fault
-use Rattle.mage_solo.specs.Stores.{WereDeceived}
-use Rattle.mage_solo.specs.Garbling.{Sunk, AllTellTaken, TookNone, AllTook, NoneTook, HasStopped, GarbleStops, IsClosed, AreClosed, HandsBack, AreMadeOf, garbler_opening, garbler_openings}
+use Rattle.mage_solo.specs.Stores.{AllSuffice, WereDeceived}
+use Rattle.mage_solo.specs.Garbling.{Sunk, AllTellTaken, TookNone, AllTook, NoneTook, NoneFailed, TellStill, HasStopped, GarbleStops, IsOfNoStore, IsClosed, AreClosed, HandsBack, AreMadeOf, garbler_opening, garbler_openings}
 use Rattle.mage_solo.specs.Plain.{lists_of}
 use Rattle.mage_solo.proofs.Lists.{same_some, if_found, if_each, found_below, found_beside, get_within, index_found, Ones, ones_of}
-use Rattle.mage_solo.proofs.Workers.{start_at, at_start, at_store, deceived_so, broken_ones, damaged_ones}
+use Rattle.mage_solo.proofs.Workers.{start_at, at_start, at_store, deceived_so, broken_ones, damaged_ones, undamaged}
 use Rattle.mage_solo.proofs.Agreeing.{joint_agrees}
 use Rattle.mage_solo.proofs.Plainly.{parts_count}
 
@@ -174,8 +177,19 @@ module _ (parts : List WorkerPart) (seed : List ℕ) (garbler : List (List ℕ))
         closes = end.2;
       }
 
+  pub tell_so : length before ≡ length parts → length after ≡ length parts → AllStay these now (ones_of after) → TellStill sinks sinks'
+  tell_so long_b long_a stay w sink tells =
+      let at = here long_b long_a w sink in
+      at.closes.told ((stay w at.back).told ∙ ap (λ (d : Told Garbling). d.told) at.opens ∙ tells)
+
+  pub none_failed : length before ≡ length parts → length after ≡ length parts → ComesTo these now (ones_of after) None → NoneFailed sinks sinks'
+  none_failed long_b long_a done w sink =
+      let at = here long_b long_a w sink in
+      sym at.closes.faults ∙ (done w at.back).driver_faults ∙ ap (λ (d : Told Garbling). d.faults) at.opens
+
   -- the driver of a worker that stopped
-  pub stopped_so : (w : ℕ) (f : DriverFault) → ComesTo these now (ones_of after) (Some (fault.Driver w f)) → HasStopped sinks sinks' w f
+  pub stopped_so : (w : ℕ) (f : DriverFault) → ComesTo these now (ones_of after) (Some (fault.Driver w f)) →
+      (f ≡ broken.Sink) × HasStopped sinks sinks' w
   stopped_so w f came =
       let back = came.0 in
       let at = start_at parts openings before w back.start back.starts_so in
@@ -185,9 +199,14 @@ module _ (parts : List WorkerPart) (seed : List ℕ) (garbler : List (List ℕ))
       let driver : end.0 ≡ back.driver = same_some end.0 back.driver (sym end.1 ∙ back.driver_so) in
       let was : back.start.driver.faults ≡ old.0.faults =
       ap (λ (d : Told Garbling). d.faults) (opened w back.start back.starts_so) ∙ ap (λ (s : SinkTold). s.faults) (index_found sinks w old.0 no_sink old.1) in
-      let is : back.driver.faults ≡ new.0.faults = ap (λ (d : Told Garbling). d.faults) (sym driver) ∙ end.2.faults in (
-        record { old = old.0; new = new.0; old_so = old.1; new_so = new.1 },
-        subst (λ (n : ℕ). RoseFor f n new.0.faults) was (subst (λ (n : ℕ). RoseFor f back.start.driver.faults n) is came.1.1),
+      let is : back.driver.faults ≡ new.0.faults = ap (λ (d : Told Garbling). d.faults) (sym driver) ∙ end.2.faults in
+      let failed : end.0.standing ≡ standing.Failed f = ap (λ (d : Told Garbling). d.standing) driver ∙ came.1.0 in
+      let sink : f ≡ broken.Sink = subst FailsAtItsSink failed end.2.failing in
+      let rose : RoseFor f old.0.faults new.0.faults =
+      subst (λ (n : ℕ). RoseFor f n new.0.faults) was (subst (λ (n : ℕ). RoseFor f back.start.driver.faults n) is came.1.1) in
+      let at_sink : RoseFor broken.Sink old.0.faults new.0.faults = subst (λ (g : DriverFault). RoseFor g old.0.faults new.0.faults) sink rose in (
+        sink,
+        (record { old = old.0; new = new.0; old_so = old.1; new_so = new.1 }, at_sink.0, at_sink.1),
       )
 
   module _ (count : ℕ) (emitted : List Emitted) (plan : MemProgram) (fine : IsMemProgram plan) (is : parts ≡ parts_of plan) (none : fault_of plan ≡ None)
@@ -303,8 +322,17 @@ module _ (parts : List WorkerPart) (seed : List ℕ) (garbler : List (List ℕ))
   told_end = carry_over (λ ds x y. AllTellTaken sinks → AreTold (starts_of parts ds x))
       (are_told parts seed garbler sinks now sinks' b.each a.each long_g long_s kept closed)
 
-  pub stopped_end : (w : ℕ) (f : DriverFault) → ComesTo (starts_of parts drivers before) now after (Some (fault.Driver w f)) → HasStopped sinks sinks' w f
-  stopped_end w f = carry_over (λ ds x y. ComesTo (starts_of parts ds x) now y (Some (fault.Driver w f)) → HasStopped sinks sinks' w f)
+  pub tell_end : AllStay (starts_of parts drivers before) now after → TellStill sinks sinks'
+  tell_end = carry_over (λ ds x y. AllStay (starts_of parts ds x) now y → TellStill sinks sinks')
+      (tell_so parts seed garbler sinks now sinks' b.each a.each long_g long_s kept closed b.long a.long)
+
+  pub quiet_end : ComesTo (starts_of parts drivers before) now after None → NoneFailed sinks sinks'
+  quiet_end = carry_over (λ ds x y. ComesTo (starts_of parts ds x) now y None → NoneFailed sinks sinks')
+      (none_failed parts seed garbler sinks now sinks' b.each a.each long_g long_s kept closed b.long a.long)
+
+  pub stopped_end : (w : ℕ) (f : DriverFault) → ComesTo (starts_of parts drivers before) now after (Some (fault.Driver w f)) →
+      (f ≡ broken.Sink) × HasStopped sinks sinks' w
+  stopped_end w f = carry_over (λ ds x y. ComesTo (starts_of parts ds x) now y (Some (fault.Driver w f)) → (f ≡ broken.Sink) × HasStopped sinks sinks' w)
       (stopped_so parts seed garbler sinks now sinks' b.each a.each long_g long_s kept closed w f)
 
   module _ (count : ℕ) (emitted : List Emitted) (plan : MemProgram) (fine : IsMemProgram plan) (is : parts ≡ parts_of plan) (none : fault_of plan ≡ None)
@@ -344,6 +372,9 @@ pub none_end : (seed : List ℕ) (garbler : List (List ℕ)) (sinks : List SinkT
 none_end seed garbler sinks now sinks' closed is long w sink =
     none_from seed 0 garbler sinks sinks' (subst (λ (l : List (Told Garbling)). AreClosed l sinks') is closed) long w sink.old sink.new sink.old_so sink.new_so
 
+pub tell_none : (before after : List SinkTold) → NoneTook before after → TellStill before after
+tell_none before after took w sink tells = ap (λ (o : Option (List ℕ)). is_some o) ((took w sink).taken tells) ∙ tells
+
 -- as many sinks come back as were handed in
 pub sinks_count : {K : Type 0} (tells : K → SinkTold) (seed : List ℕ) (values : List (Vec ℕ Global)) (all left now : List K) (drivers : List (Told Garbling)) →
     length values ≡ length all → AreMadeOf tells seed values all left drivers → HandsBack tells drivers left now → length now ≡ length all
@@ -373,6 +404,18 @@ module _ (parts : List WorkerPart) (seed : List ℕ) (garbler : List (List ℕ))
       stopped_end parts seed garbler sinks drivers now sinks' before after made long_g long_s kept closed b a w f came
   garble_stops (Some (fault.Damaged w damage)) came untold = damaged_ones parts drivers now before after counted kept b a w damage came (untold w damage refl)
   garble_stops (Some fault.Memory) came untold = tt
+
+  -- no store stops a run whose stores suffice
+  pub garble_spared : AllSuffice parts before → (found : Option RunFault) → ComesTo (starts_of parts drivers before) now after found →
+      ((w : ℕ) (damage : Damage) → found ≡ Some (fault.Damaged w damage) → IfSome (slice_get (starts_of parts drivers before) w) (λ start. start.store.pages ≡ None)) →
+      IsNotOfStore found → IfSome found IsOfNoStore
+  garble_spared all None came untold no_store = tt
+  garble_spared all (Some (fault.Store w)) came untold no_store = absurd no_store
+  garble_spared all (Some (fault.Driver w f)) came untold no_store =
+      (stopped_end parts seed garbler sinks drivers now sinks' before after made long_g long_s kept closed b a w f came).0
+  garble_spared all (Some (fault.Damaged w damage)) came untold no_store =
+      absurd (undamaged parts drivers now before after counted kept b a all w damage came (untold w damage refl))
+  garble_spared all (Some fault.Memory) came untold no_store = tt
 
 -- what holds where an answer isn't an error
 pub ok_all : (P : Type 0) {T E : Type 0} (r : Result T E) → OnOk r P → {b : Bool} → b ≡ is_err r → b ≡ false → P

@@ -1,16 +1,17 @@
 -- A run that garbles.
-use Rattle.std.specs.Prelude.{◌≡◌, ◌+◌, ◌++◌, ℕ, List, [], ◌∷◌, length, map, Vec, IfSome, IsTrue, Some, slice_get, unwrap_or}
+use Rattle.std.specs.Prelude.{◌≡◌, ◌≤◌, ◌+◌, ◌++◌, ℕ, List, [], ◌∷◌, length, map, Vec, IfSome, IsTrue, Some, slice_get, unwrap_or}
 use Rattle.std.specs.Global.{Global}
 use Rattle.std.specs.Option.{option_map}
+use Rattle.mage_base.specs.Faults.{Rose}
 use Rattle.mage_base.specs.Sink.{SinkTold}
 use Rattle.mage_base.specs.Store.{StoreTold}
 use Rattle.mage_driver.specs.declared.standing.Standing.TheVariants as standing
-use Rattle.mage_driver.specs.Calls.{Told, RoseFor}
-use Rattle.mage_instr.specs.declared.fault.DriverFault.{DriverFault}
+use Rattle.mage_driver.specs.Calls.{Told}
+use Rattle.mage_instr.specs.declared.fault.DriverFault.TheVariants as broken
 use Rattle.mage_verify.specs.Parts.{WorkerPart}
 use Rattle.mage_core.specs.declared.fault.RunFault.{RunFault}
 use Rattle.mage_core.specs.declared.fault.RunFault.TheVariants as fault
-use Rattle.mage_garble.specs.Rule.{Garbling, garbling_from}
+use Rattle.mage_garble.specs.Rule.{Garbling, FailsAtItsSink, garbling_from}
 use Rattle.mage_garble.specs.Sending.{tells_taken}
 use Rattle.mage_solo.specs.Stores.{HasBroken, HasDamaged}
 use Rattle.mage_solo.specs.Plain.{lists_of}
@@ -45,16 +46,33 @@ module _ (before after : List SinkTold) where
   abbrev pub NoneTook : Type 0
   NoneTook = (w : ℕ) (sink : Sunk before after w) → TookNone sink.old sink.new
 
-  -- the driver of a worker stopped: its sink's count of faults rose, where the fault is one of the outside
-  abbrev pub HasStopped : ℕ → DriverFault → Type 0
-  HasStopped w f = (sink : Sunk before after w) × RoseFor f sink.old.faults sink.new.faults
+  -- no sink failed
+  abbrev pub NoneFailed : Type 0
+  NoneFailed = (w : ℕ) (sink : Sunk before after w) → sink.new.faults ≡ sink.old.faults
+
+  -- each sink that told what it had taken tells it still
+  abbrev pub TellStill : Type 0
+  TellStill = (w : ℕ) (sink : Sunk before after w) → IsTrue (tells_taken sink.old)
+      → IsTrue (tells_taken sink.new)
+
+  -- the sink of a worker failed
+  abbrev pub HasStopped : ℕ → Type 0
+  HasStopped w = (sink : Sunk before after w)
+      × (sink.old.faults ≤ sink.new.faults) × Rose sink.old.faults sink.new.faults
 
 -- Why a run that garbles stopped: a store failed, or brought back another page than it was given, or a sink failed.
 abbrev pub GarbleStops : List WorkerPart → (before after : List (List StoreTold)) → (sinks sinks' : List SinkTold) → RunFault → Type 0
 GarbleStops parts before after sinks sinks' (fault.Store worker) = HasBroken parts before after worker
-GarbleStops parts before after sinks sinks' (fault.Driver worker f) = HasStopped sinks sinks' worker f
+GarbleStops parts before after sinks sinks' (fault.Driver worker f) = (f ≡ broken.Sink) × HasStopped sinks sinks' worker
 GarbleStops parts before after sinks sinks' (fault.Damaged worker damage) = HasDamaged parts before after worker damage
 GarbleStops parts before after sinks sinks' fault.Memory = Unit {0}
+
+-- No store stopped a run that garbles: there was no memory, or a sink failed.
+abbrev pub IsOfNoStore : RunFault → Type 0
+IsOfNoStore (fault.Store worker) = ⊥
+IsOfNoStore (fault.Driver worker f) = f ≡ broken.Sink
+IsOfNoStore (fault.Damaged worker damage) = ⊥
+IsOfNoStore fault.Memory = Unit {0}
 
 -- the driver of a worker before its first call
 abbrev pub garbler_opening : (seed : List ℕ) → (worker : ℕ) → (values : List ℕ) → SinkTold → Told Garbling
@@ -76,6 +94,7 @@ pub record IsClosed (driver : Told Garbling) (sink : SinkTold) : Type 0 where
   pub stream : driver.state.sending.stream ≡ unwrap_or sink.taken []
   pub told : IsTrue driver.told → IsTrue (tells_taken sink)
   pub faults : driver.faults ≡ sink.faults
+  pub failing : FailsAtItsSink driver.standing
 
 -- the same of each driver, in order
 abbrev pub AreClosed : List (Told Garbling) → List SinkTold → Type 0

@@ -11,9 +11,9 @@ ghost use Rattle.mage_streams.specs.Streams.{garbled_stream};
 ghost use Rattle.mage_carried.specs.Laws.{CanRun, Carries};
 ghost use Rattle.mage_core.specs.declared.fault.RunFault.TheVariants as fault;
 ghost use Rattle.mage_core.specs.Made.{HasStoreOf, shelves};
-ghost use Rattle.mage_solo.specs.Stores.{told_by, AreMoved, HaveGrown, WereDeceived};
+ghost use Rattle.mage_solo.specs.Stores.{told_by, AllSuffice, AreMoved, HaveGrown, WereDeceived};
 ghost use Rattle.mage_solo.specs.Plain.{lists_of};
-ghost use Rattle.mage_solo.specs.Garbling.{AllTellTaken, AllTook, NoneTook, GarbleStops, HandsBack, AreMadeOf};
+ghost use Rattle.mage_solo.specs.Garbling.{AllTellTaken, AllTook, NoneFailed, NoneTook, TellStill, GarbleStops, IsOfNoStore, HandsBack, AreMadeOf};
 
 use mage_base::{Memory, Sink, Store};
 use mage_core::{RunFault, solo};
@@ -88,10 +88,11 @@ fn turned<K: Sink>(drivers: Vec<GarbleDriver<K>>) -> Vec<GarbleDriver<K>>
 /// a list for each worker, and each over its one store. The parts are those of one `Verified`, in order; there are as many lists of
 /// each kind as parts. A wire takes 16 bytes, so that a store's pages are 16 times as many bytes as the part's have wires.
 ///
-/// It always returns, and hands sinks and stores back in order. `Memory` comes before the first step, and then the stores are as they
-/// were, and no sink took anything. `Store` comes only where the count of faults of that worker's store rose or stands at its top,
+/// It always returns, and hands sinks and stores back in order; a sink that told what it had taken tells it still. `Memory` comes
+/// before the first step, and then the stores are as they were, and no sink took anything. Without a fault no sink failed. `Store` comes only where the count of faults of that worker's store rose or stands at its top,
 /// `Damaged` only where that worker's store doesn't tell its pages and answered a read of that page with another digest than was kept,
-/// and `Sink` of a driver only where the count of faults of that worker's sink rose or stands at its top.
+/// and `Driver` only with `Sink`, where the count of faults of that worker's sink rose or stands at its top. Where all stores suffice
+/// for their parts, only `Memory` and such a fault of a sink come.
 ///
 /// Where the memory program carries a program that can run, and nothing stopped the run, each sink that tells what it takes took the
 /// worker's garbled stream behind what it had, unless a store answered a read with other bytes of the same digest. Nothing is said
@@ -117,6 +118,9 @@ pub fn run_garbling<S: Store, K: Sink>(
     ensures shape { map (λ shelf. length shelf) (shelves result.stores.items)
         ≡ map (λ shelf. length shelf) (shelves stores.items) }
     ensures sinks { length result.sinks.items ≡ length sinks.items }
+    ensures kept { TellStill (map K.tells sinks.items) (map K.tells result.sinks.items) }
+    ensures quiet { result.fault ≡ None
+        → NoneFailed (map K.tells sinks.items) (map K.tells result.sinks.items) }
     ensures grown { HaveGrown parts.items
         (told_by S.tells stores.items) (told_by S.tells result.stores.items) }
     ensures count { result.fault ≡ None → AreMoved parts.items
@@ -124,6 +128,8 @@ pub fn run_garbling<S: Store, K: Sink>(
     ensures comes { IfSome result.fault (GarbleStops parts.items
         (told_by S.tells stores.items) (told_by S.tells result.stores.items)
         (map K.tells sinks.items) (map K.tells result.sinks.items)) }
+    ensures steady { AllSuffice parts.items (told_by S.tells stores.items)
+        → IfSome result.fault IsOfNoStore }
     ensures streams { (plan : MemProgram) (count : ℕ) (emitted : List Emitted)
         → IsMemProgram plan → parts.items ≡ parts_of plan → Carries count emitted plan
         → CanRun count emitted → AllTellTaken (map K.tells sinks.items) → result.fault ≡ None

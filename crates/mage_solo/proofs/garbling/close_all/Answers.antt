@@ -21,7 +21,7 @@ loop-driver-preserved g c =
       closing = closing_more g.K.Sink.tells c.args.drivers.now.items c.loop-driver.drivers.items c.pop.new.self.items c.in-Some.driver
           c.args.sinks.now.items c.loop-driver.sinks.items c.push_reserved.new.self.items c.close.result c.loop-driver.invariant.closing
           c.in-Some.ensures.items c.push_reserved.ensures.items
-          (record { stream = c.close.ensures.stream; told = c.close.ensures.told; faults = c.close.ensures.faults });
+          (record { stream = c.close.ensures.stream; told = c.close.ensures.told; faults = c.close.ensures.faults; failing = c.close.ensures.sink });
       room = omega (arith, more, one, last, less, room, same);
     }
 
