@@ -101,7 +101,7 @@ carried_garbles count emitted plan seed garbler sinks can carried = record {
 abbrev all_whole : List Label → Bool
 all_whole labels = list_all (λ (label : Label). nat_eq (length label.bytes) 16) labels
 
-abbrev labels_whole : Evaluating → Bool
+abbrev pub labels_whole : Evaluating → Bool
 labels_whole s = all_whole s.evaluator.labels
 
 whole_next : (left : List ℕ) → IsWhole (next_label left)
@@ -131,7 +131,7 @@ whole_rest (suc count) [] h = refl
 whole_rest (suc count) (label ∷ labels) h =
     whole_rest count labels (both_so (nat_eq (length label.bytes) 16) (all_whole labels) h).1
 
-evaluator_gives_wires : CallsGiveWires eval_rules labels_whole
+pub evaluator_gives_wires : CallsGiveWires eval_rules labels_whole
 evaluator_gives_wires = record {
   constant = λ s bit h. IsWhole-blank;
   xor = IsWhole-xor;
@@ -150,7 +150,7 @@ evaluator_gives_wires = record {
     whole_taken s party.Garbler count f = (whole_nexts count s.evaluator.left, f)
     whole_taken s party.Evaluator count f = (whole_firsts count s.evaluator.labels f, whole_rest count s.evaluator.labels f)
 
-whole_test : (labels : List Label) → AreWhole labels → all_whole labels ≡ true
+pub whole_test : (labels : List Label) → AreWhole labels → all_whole labels ≡ true
 whole_test [] h = refl
 whole_test (label ∷ labels) h =
     ap (λ b. b && all_whole labels) (eq-eqb (length label.bytes) 16 h.0) ∙ whole_test labels h.1

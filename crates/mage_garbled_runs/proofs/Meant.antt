@@ -174,7 +174,7 @@ module _ (count : ℕ) (emitted : List Emitted) (given : Given) (can : CanRunOn 
       nothing (suc k) = refl
 
   -- where there is room for the outputs, what is kept is what the program means
-  kept_is_meant : (rooms : ℕ → ℕ) → ((n : ℕ) → n < count → outputs_in (own_instrs emitted n) ≤ rooms n) → (n : ℕ) → n < count →
+  pub kept_is_meant : (rooms : ℕ → ℕ) → ((n : ℕ) → n < count → outputs_in (own_instrs emitted n) ≤ rooms n) → (n : ℕ) → n < count →
       take (rooms n) (reckoned n) ≡ list_at (means_of (program_of count emitted) given) n
   kept_is_meant rooms room n within =
       sym (kept_reckoned rooms n) ∙ unplaced_means count emitted given (drivers rooms) able n within
@@ -227,7 +227,7 @@ whole_dealt_for g (Input party.Evaluator count) values =
 whole_dealt_for g (Output wires) values = tt
 whole_dealt_for g Finish values = tt
 
-whole_dealt : (calls : List (Call Garbler Label)) (values : List ℕ) → AreWhole (dealt_at calls values)
+pub whole_dealt : (calls : List (Call Garbler Label)) (values : List ℕ) → AreWhole (dealt_at calls values)
 whole_dealt [] values = tt
 whole_dealt (call ∷ calls) values =
     whole_more (dealt_for call.state call.ask values) (dealt_at calls (values_behind call.ask values))

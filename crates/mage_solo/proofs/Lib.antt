@@ -8,3 +8,9 @@ mod Agreeing
 mod Plainly
 mod Handing
 mod Streaming
+mod Rooms
+mod Decoded
+mod Drawing
+mod Evaluation
+mod Dealt
+mod Concluding

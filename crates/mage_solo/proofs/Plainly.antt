@@ -115,7 +115,7 @@ can_run count emitted plan given carried can = record {
   room = room_enough count emitted plan carried;
 }
 
-means_count : (count : ℕ) (emitted : List Emitted) (given : Given) → length (means_of (program_of count emitted) given) ≡ count
+pub means_count : (count : ℕ) (emitted : List Emitted) (given : Given) → length (means_of (program_of count emitted) given) ≡ count
 unfolding means_of
 means_count count emitted given =
     map_long _ (below (length (program_of count emitted).workers)) ∙ below_long (length (program_of count emitted).workers)

@@ -1,3 +1,4 @@
 pub mod Stores
 pub mod Plain
 pub mod Garbling
+pub mod Evaluating
