@@ -14,3 +14,4 @@ mod Drawing
 mod Evaluation
 mod Dealt
 mod Concluding
+mod Fronting

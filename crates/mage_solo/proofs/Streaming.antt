@@ -14,7 +14,6 @@ use Rattle.mage_instr.specs.declared.fault.DriverFault.TheVariants as broken
 use Rattle.mage_instr.specs.declared.directive.MemProgram.{MemProgram}
 use Rattle.mage_directives.specs.Directives.{IsMemProgram}
 use Rattle.mage_driver.specs.declared.standing.Standing.TheVariants as standing
-use Rattle.mage_driver.specs.declared.standing.Standing.{Standing}
 use Rattle.mage_driver.specs.Calls.{Told, RoseFor}
 use Rattle.mage_linked.specs.declared.emitted.Emitted.{Emitted}
 use Rattle.mage_linked.specs.Emission.{program_of}
@@ -102,7 +101,7 @@ closed_count (d ∷ ds) [] h = absurd h
 closed_count (d ∷ ds) (s ∷ ss) h = ap suc (closed_count ds ss h.1)
 
 -- what a sink took that tells it before and after
-taken_more : (before after : Option (List ℕ)) (bytes : List ℕ) → IsTrue (is_some before) → IsTrue (is_some after) →
+pub taken_more : (before after : Option (List ℕ)) (bytes : List ℕ) → IsTrue (is_some before) → IsTrue (is_some after) →
     unwrap_or after [] ≡ unwrap_or before [] ++ bytes → after ≡ option_map (λ earlier. earlier ++ bytes) before
 taken_more None after bytes told tells is = absurd cc
 taken_more (Some earlier) None bytes told tells is = absurd cc
@@ -127,7 +126,7 @@ module _ (parts : List WorkerPart) (seed : List ℕ) (garbler : List (List ℕ))
   abbrev states : ℕ → Garbling
   states = garblers seed (list_at garbler) (sink_at sinks)
 
-  counted : length openings ≡ length parts
+  pub counted : length openings ≡ length parts
   counted = garbler_openings_count seed 0 garbler sinks (omega (arith, long_g, long_s)) ∙ long_s
 
   opened : (w : ℕ) (start : Start Garbling) → slice_get these w ≡ Some start → start.driver ≡ garbler_opening seed w (list_at garbler w) (sink_at sinks w)
@@ -149,12 +148,12 @@ module _ (parts : List WorkerPart) (seed : List ℕ) (garbler : List (List ℕ))
       ap (λ (d : Told Garbling). d.told) (opened w start e) ∙ ap tells_taken (index_found sinks w sink.0 no_sink sink.1) ∙ tells)
 
   -- a worker of the run, by its sink
-  record Here (w : ℕ) (sink : Sunk sinks sinks' w) : Type 0 where
-    back : Back these now (ones_of after) w
-    opens : back.start.driver ≡ garbler_opening seed w (list_at garbler w) sink.old
-    closes : IsClosed back.driver sink.new
+  pub record Here (w : ℕ) (sink : Sunk sinks sinks' w) : Type 0 where
+    pub back : Back these now (ones_of after) w
+    pub opens : back.start.driver ≡ garbler_opening seed w (list_at garbler w) sink.old
+    pub closes : IsClosed back.driver sink.new
 
-  here : length before ≡ length parts → length after ≡ length parts → (w : ℕ) (sink : Sunk sinks sinks' w) → Here w sink
+  pub here : length before ≡ length parts → length after ≡ length parts → (w : ℕ) (sink : Sunk sinks sinks' w) → Here w sink
   here long_b long_a w sink =
       let within : w < length parts = subst (λ n. w < n) long_s (get_within sinks w sink.old sink.old_so) in
       let part = found_below parts w within in
@@ -216,7 +215,7 @@ module _ (parts : List WorkerPart) (seed : List ℕ) (garbler : List (List ℕ))
     stream = garbled_stream (program_of count emitted) seed (list_at garbler)
 
     -- what a worker's garbler has said in the joint run
-    whole_stream : (w : ℕ) (sink : Sunk sinks sinks' w) →
+    pub whole_stream : (w : ℕ) (sink : Sunk sinks sinks' w) →
         (joint_after garble_rules plan states (verified_turns plan.workers) w).state.engine.driver.sending.stream ≡ unwrap_or sink.old.taken [] ++ stream w
     whole_stream w sink =
         let run = carried_garbles count emitted plan seed (list_at garbler) (sink_at sinks) can carried in
@@ -226,10 +225,10 @@ module _ (parts : List WorkerPart) (seed : List ℕ) (garbler : List (List ℕ))
         ∙ run.stream w within
         ∙ ap (λ (s : SinkTold). unwrap_or s.taken [] ++ stream w) (index_found sinks w sink.old no_sink sink.old_so)
 
-    tells_old : (w : ℕ) (sink : Sunk sinks sinks' w) → IsTrue (is_some sink.old.taken)
+    pub tells_old : (w : ℕ) (sink : Sunk sinks sinks' w) → IsTrue (is_some sink.old.taken)
     tells_old w sink = if_found (λ (s : SinkTold). IsTrue (tells_taken s)) (slice_get sinks w) sink.old sink.old_so (tell w)
 
-    tells_new : (w : ℕ) (sink : Sunk sinks sinks' w) (at : Here w sink) → at.back.driver.told ≡ at.back.start.driver.told → IsTrue (is_some sink.new.taken)
+    pub tells_new : (w : ℕ) (sink : Sunk sinks sinks' w) (at : Here w sink) → at.back.driver.told ≡ at.back.start.driver.told → IsTrue (is_some sink.new.taken)
     tells_new w sink at same = at.closes.told (same ∙ ap (λ (d : Told Garbling). d.told) at.opens ∙ tells_old w sink)
 
     all_took : RunsJoint garble_rules plan states these now (ones_of after) → AllStay these now (ones_of after) → ComesTo these now (ones_of after) None →
@@ -311,7 +310,7 @@ module _ (parts : List WorkerPart) (seed : List ℕ) (garbler : List (List ℕ))
     (before after : List (List StoreTold)) (made : drivers ≡ garbler_openings seed 0 garbler sinks) (long_g : length garbler ≡ length parts)
     (long_s : length sinks ≡ length parts) (kept : length now ≡ length parts) (closed : AreClosed now sinks')
     (b : Ones before (length parts)) (a : Ones after (length parts)) where
-  carry_over : (P : List (Told Garbling) → List (List StoreTold) → List (List StoreTold) → Type 0) →
+  pub carry_over : (P : List (Told Garbling) → List (List StoreTold) → List (List StoreTold) → Type 0) →
       P (garbler_openings seed 0 garbler sinks) (ones_of b.each) (ones_of a.each) → P drivers before after
   carry_over P h =
       subst (λ (ds : List (Told Garbling)). P ds before after) (sym made)

@@ -2,3 +2,4 @@ pub mod Stores
 pub mod Plain
 pub mod Garbling
 pub mod Evaluating
+pub mod Fronts

@@ -12,6 +12,7 @@ ghost use Rattle.mage_carried.specs.Laws.{CanRun, Carries};
 ghost use Rattle.mage_core.specs.declared.fault.RunFault.TheVariants as fault;
 ghost use Rattle.mage_core.specs.Made.{HasStoreOf, shelves};
 ghost use Rattle.mage_solo.specs.Stores.{told_by, AllSuffice, AreMoved, HaveGrown, WereDeceived};
+ghost use Rattle.mage_solo.specs.Fronts.{AllTookFronts};
 ghost use Rattle.mage_solo.specs.Plain.{lists_of};
 ghost use Rattle.mage_solo.specs.Garbling.{AllTellTaken, AllTook, NoneFailed, NoneTook, TellStill, GarbleStops, IsOfNoStore, HandsBack, AreMadeOf};
 
@@ -95,8 +96,8 @@ fn turned<K: Sink>(drivers: Vec<GarbleDriver<K>>) -> Vec<GarbleDriver<K>>
 /// for their parts, only `Memory` and such a fault of a sink come.
 ///
 /// Where the memory program carries a program that can run, and nothing stopped the run, each sink that tells what it takes took the
-/// worker's garbled stream behind what it had, unless a store answered a read with other bytes of the same digest. Nothing is said
-/// of what sinks took before a fault, of how long it takes, nor of secrecy.
+/// worker's garbled stream behind what it had, unless a store answered a read with other bytes of the same digest; and with a fault
+/// but `Memory` each took a front of it. Nothing is said of how long it takes, nor of secrecy.
 pub fn run_garbling<S: Store, K: Sink>(
     alloc: Global,
     parts: Vec<Part>,
@@ -134,6 +135,14 @@ pub fn run_garbling<S: Store, K: Sink>(
         → IsMemProgram plan → parts.items ≡ parts_of plan → Carries count emitted plan
         → CanRun count emitted → AllTellTaken (map K.tells sinks.items) → result.fault ≡ None
         → AllTook (map K.tells sinks.items) (map K.tells result.sinks.items)
+        (garbled_stream (program_of count emitted) seed (list_at (lists_of garbler.items)))
+        ⊎ WereDeceived parts.items
+        (told_by S.tells stores.items) (told_by S.tells result.stores.items) }
+    ensures fronts { (plan : MemProgram) (count : ℕ) (emitted : List Emitted)
+        → IsMemProgram plan → parts.items ≡ parts_of plan → Carries count emitted plan
+        → CanRun count emitted → AllTellTaken (map K.tells sinks.items)
+        → (result.fault ≡ Some fault.Memory → ⊥)
+        → AllTookFronts (map K.tells sinks.items) (map K.tells result.sinks.items)
         (garbled_stream (program_of count emitted) seed (list_at (lists_of garbler.items)))
         ⊎ WereDeceived parts.items
         (told_by S.tells stores.items) (told_by S.tells result.stores.items) }
