@@ -1,7 +1,7 @@
 -- A whole run is the joint run over what its stores answered.
 use Rattle.std.proofs.Common.{◌≡◌, ◌≤◌, ◌++◌, ℕ, zero, suc, List, [], ◌∷◌, length, map, None, Some, slice_get, sym, ap, ◌∙◌, arith}
 use Rattle.std.proofs.lemmas.List.{length-map}
-use Rattle.std.specs.Prelude.{IfSome, IsTrue}
+use Rattle.std.specs.Prelude.{IfSome}
 use Rattle.std.specs.Option.{option_map}
 use Rattle.std.specs.List.{All}
 use Rattle.mage_base.specs.Store.{StoreTold}
@@ -11,7 +11,7 @@ use Rattle.mage_driver.specs.Rules.{Rules}
 use Rattle.mage_driver.specs.Calls.{Told}
 use Rattle.mage_link.specs.Queues.{QueueState, queue_told}
 use Rattle.mage_verify.specs.Faults.{fault_of}
-use Rattle.mage_verify.specs.Parts.{WorkerPart, parts_of}
+use Rattle.mage_verify.specs.Parts.{parts_of}
 use Rattle.mage_engine.specs.Seen.{Seen, IsEnded}
 use Rattle.mage_core.specs.Ports.{RunMachine, store_of, CameBy}
 use Rattle.mage_core.specs.Turns.{sights}
@@ -21,6 +21,7 @@ use Rattle.mage_core.specs.Answered.{AreStates, AreTold, RunsAnswered}
 use Rattle.mage_core.proofs.Starting.{if_found, map_get, all_get}
 use Rattle.mage_core.proofs.Joined.{answers_of, answers_are, ended_joint}
 use Rattle.mage_core.proofs.Ending.{handed_so}
+use Rattle.mage_core.proofs.Handed.{part_so, told_so, state_so}
 use Rattle.mage_core.proofs.Whole.{sight, drivers_in, stores_in, unmap, some_one, head_one, driver_at, store_at}
 
 pub none_beyond : {X : Type 0} (xs : List X) (w : ℕ) → slice_get xs w ≡ None → length xs ≤ w
@@ -39,16 +40,6 @@ module _ {W D S : Type 0} (rules : Rules W) (driver_tells : D → Told rules.Sta
   abbrev pub seen_all : List (Seen rules.State)
   seen_all = sights driver_tells store_tells machines
 
-  part_so : (w : ℕ) (start : Start rules.State) → slice_get starts w ≡ Some start → slice_get (parts_of plan) w ≡ Some start.part
-  part_so w start is =
-      ap (λ (ps : List WorkerPart). slice_get ps w) (sym parts) ∙ map_get (λ (s : Start rules.State). s.part) starts w start is
-
-  told_so : (w : ℕ) (start : Start rules.State) → slice_get starts w ≡ Some start → IsTrue start.driver.told
-  told_so w start is = if_found (λ (s : Start rules.State). IsTrue s.driver.told) (slice_get starts w) start is (told w)
-
-  state_so : (w : ℕ) (start : Start rules.State) → slice_get starts w ≡ Some start → states w ≡ start.driver.state
-  state_so w start is = if_found (λ (s : Start rules.State). states w ≡ s.driver.state) (slice_get starts w) start is (are w)
-
   beyond : (m n : ℕ) → slice_get seen_all n ≡ None → (queue_told links).sent n m ≡ []
   beyond m n is =
       let past = none_beyond seen_all n is in
@@ -56,7 +47,7 @@ module _ {W D S : Type 0} (rules : Rules W) (driver_tells : D → Told rules.Sta
       quiet n m (omega (arith, past, long, count))
 
   abbrev answers : ℕ → ℕ → List (List ℕ)
-  answers = answers_of rules plan states links seen_all starts all part_so told_so state_so beyond
+  answers = answers_of rules plan states links seen_all starts all (part_so rules starts plan parts) (told_so rules starts told) (state_so rules starts states are) beyond
 
   -- the machine of a worker that comes back
   record Of (w : ℕ) (back : Back starts (drivers_in rules driver_tells store_tells machines) (stores_in rules driver_tells store_tells machines) w) : Type 0 where
@@ -89,12 +80,12 @@ module _ {W D S : Type 0} (rules : Rules W) (driver_tells : D → Told rules.Sta
           m.port.port.made,
           ap (λ (s : StoreTold). s.log) (sym of.store) ∙ c.came.log
               ∙ ap (λ (s : StoreTold). option_map (λ earlier. earlier ++ m.port.port.made) s.log) (handed ∙ ap (λ (s : Start rules.State). s.store) start),
-          answers_are rules plan states links seen_all starts all part_so told_so state_so beyond w (sight rules driver_tells store_tells m) at,
+          answers_are rules plan states links seen_all starts all (part_so rules starts plan parts) (told_so rules starts told) (state_so rules starts states are) beyond w (sight rules driver_tells store_tells m) at,
         );
     stands = λ w back. let of = of_back w back in
         let m = of.machine in
         let at = map_get (sight rules driver_tells store_tells) machines w m of.at in
         ap (λ (d : Told rules.State). d.state) (sym of.driver)
-        ∙ ended_joint rules plan states links seen_all starts all part_so told_so state_so beyond fine none w (sight rules driver_tells store_tells m) at
+        ∙ ended_joint rules plan states links seen_all starts all (part_so rules starts plan parts) (told_so rules starts told) (state_so rules starts states are) beyond fine none w (sight rules driver_tells store_tells m) at
         (if_found IsEnded (slice_get seen_all w) (sight rules driver_tells store_tells m) at (ended w));
   }

@@ -1,7 +1,6 @@
 -- What comes back from a run, also with a fault, begins the joint run over what the stores answered.
 use Rattle.std.proofs.Common.{◌≡◌, ◌++◌, ℕ, List, length, Option, None, Some, slice_get, sym, ap, ◌∙◌, subst, map}
 use Rattle.std.proofs.lemmas.List.{length-map}
-use Rattle.std.specs.Prelude.{IsTrue}
 use Rattle.std.specs.List.{All}
 use Rattle.std.specs.Option.{option_map}
 use Rattle.mage_base.specs.Store.{StoreTold}
@@ -15,7 +14,7 @@ use Rattle.mage_link.specs.Queues.{QueueState}
 use Rattle.mage_steps.specs.Core.{Flight, answered_after}
 use Rattle.mage_verified_runs.specs.Turns.{verified_turns}
 use Rattle.mage_verify.specs.Faults.{fault_of}
-use Rattle.mage_verify.specs.Parts.{WorkerPart, parts_of}
+use Rattle.mage_verify.specs.Parts.{parts_of}
 use Rattle.mage_engine.specs.Seen.{Seen}
 use Rattle.mage_core.specs.declared.fault.RunFault.{RunFault}
 use Rattle.mage_core.specs.Ports.{RunMachine, CameBy}
@@ -24,29 +23,14 @@ use Rattle.mage_core.specs.Going.{Start, EndsAs}
 use Rattle.mage_core.specs.Results.{Back}
 use Rattle.mage_core.specs.Answered.{AreStates, AreTold}
 use Rattle.mage_core.specs.Begun.{StandsBetween, BeginsAnswered}
-use Rattle.mage_core.proofs.Starting.{if_found, map_get}
+use Rattle.mage_core.proofs.Starting.{map_get}
+use Rattle.mage_core.proofs.Handed.{part_so, told_so, state_so}
 use Rattle.mage_core.proofs.Ending.{handed_so}
 use Rattle.mage_core.proofs.Whole.{sight, drivers_in, stores_in}
 use Rattle.mage_core.proofs.Sufficing.{Of, of_back}
 use Rattle.mage_core.proofs.Last.{Last, last_of}
 use Rattle.mage_core.proofs.Standing.{EndsAt, stops_some}
 use Rattle.mage_core.proofs.Begun.{answers_to, answers_found, was_own, ends_answered}
-
--- ---- the workers as they were handed in
-
-module _ {W : Type 0} (rules : Rules W) (starts : List (Start rules.State)) where
-  pub part_so : (plan : MemProgram) → map (λ (start : Start rules.State). start.part) starts ≡ parts_of plan → (w : ℕ) (start : Start rules.State) →
-      slice_get starts w ≡ Some start → slice_get (parts_of plan) w ≡ Some start.part
-  part_so plan parts w start is =
-      ap (λ (ps : List WorkerPart). slice_get ps w) (sym parts) ∙ map_get (λ (s : Start rules.State). s.part) starts w start is
-
-  pub told_so : AreTold starts → (w : ℕ) (start : Start rules.State) → slice_get starts w ≡ Some start → IsTrue start.driver.told
-  told_so told w start is = if_found (λ (s : Start rules.State). IsTrue s.driver.told) (slice_get starts w) start is (told w)
-
-  pub state_so : (states : ℕ → rules.State) → AreStates starts states → (w : ℕ) (start : Start rules.State) → slice_get starts w ≡ Some start → states w ≡ start.driver.state
-  state_so states are w start is = if_found (λ (s : Start rules.State). states w ≡ s.driver.state) (slice_get starts w) start is (are w)
-
--- ---- what comes back
 
 module _ {W D S : Type 0} (rules : Rules W) (driver_tells : D → Told rules.State) (store_tells : S → StoreTold)
     (starts : List (Start rules.State)) (machines : List (RunMachine D S)) where

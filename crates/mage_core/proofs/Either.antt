@@ -1,7 +1,7 @@
 -- A whole run is the joint run over pages, or a store answered with other bytes than were written.
 use Rattle.std.proofs.Common.{◌≡◌, ◌⊎◌, inl, inr, ℕ, List, [], length, map, None, Some, slice_get, sym, ap, ◌∙◌, subst, arith}
 use Rattle.std.proofs.lemmas.List.{length-map}
-use Rattle.std.specs.Prelude.{IfSome, IsTrue}
+use Rattle.std.specs.Prelude.{IfSome}
 use Rattle.std.specs.List.{All}
 use Rattle.mage_base.specs.Store.{StoreTold}
 use Rattle.mage_instr.specs.declared.directive.MemProgram.{MemProgram}
@@ -11,7 +11,7 @@ use Rattle.mage_driver.specs.Calls.{Told}
 use Rattle.mage_link.specs.Queues.{QueueState, queue_told}
 use Rattle.mage_store.specs.SerialPort.{transfers_of}
 use Rattle.mage_verify.specs.Faults.{fault_of}
-use Rattle.mage_verify.specs.Parts.{WorkerPart, parts_of}
+use Rattle.mage_verify.specs.Parts.{parts_of}
 use Rattle.mage_engine.specs.Seen.{Seen, IsEnded}
 use Rattle.mage_core.specs.Ports.{RunMachine, CameBy}
 use Rattle.mage_core.specs.Turns.{sights}
@@ -21,6 +21,7 @@ use Rattle.mage_core.specs.Answered.{AreStates, AreTold}
 use Rattle.mage_core.specs.Joined.{RunsJoint, WasDeceived}
 use Rattle.mage_core.proofs.Starting.{if_found, map_get}
 use Rattle.mage_core.proofs.Jointly.{ended_over, passed_over}
+use Rattle.mage_core.proofs.Handed.{part_so, told_so, state_so}
 use Rattle.mage_core.proofs.Deciding.{decide_machines, deceived_so}
 use Rattle.mage_core.proofs.Whole.{sight, drivers_in, stores_in, unmap}
 use Rattle.mage_core.proofs.Answered.{none_beyond}
@@ -48,16 +49,6 @@ module _ {W D S : Type 0} (rules : Rules W) (driver_tells : D → Told rules.Sta
   abbrev seen_all : List (Seen rules.State)
   seen_all = sights driver_tells store_tells machines
 
-  part_so : (w : ℕ) (start : Start rules.State) → slice_get starts w ≡ Some start → slice_get (parts_of plan) w ≡ Some start.part
-  part_so w start is =
-      ap (λ (ps : List WorkerPart). slice_get ps w) (sym parts) ∙ map_get (λ (s : Start rules.State). s.part) starts w start is
-
-  told_so : (w : ℕ) (start : Start rules.State) → slice_get starts w ≡ Some start → IsTrue start.driver.told
-  told_so w start is = if_found (λ (s : Start rules.State). IsTrue s.driver.told) (slice_get starts w) start is (told w)
-
-  state_so : (w : ℕ) (start : Start rules.State) → slice_get starts w ≡ Some start → states w ≡ start.driver.state
-  state_so w start is = if_found (λ (s : Start rules.State). states w ≡ s.driver.state) (slice_get starts w) start is (are w)
-
   beyond : (m n : ℕ) → slice_get seen_all n ≡ None → (queue_told links).sent n m ≡ []
   beyond m n is =
       let past = none_beyond seen_all n is in
@@ -80,12 +71,12 @@ module _ {W D S : Type 0} (rules : Rules W) (driver_tells : D → Told rules.Sta
         let of = of_driver rules driver_tells store_tells machines w back.driver back.driver_so in
         let at = map_get (sight rules driver_tells store_tells) machines w of.machine of.at in
         ap (λ (d : Told rules.State). d.state) (sym of.is)
-        ∙ ended_over rules plan states links seen_all starts all part_so told_so state_so beyond (right_so right) fine none w (sight rules driver_tells store_tells of.machine) at
+        ∙ ended_over rules plan states links seen_all starts all (part_so rules starts plan parts) (told_so rules starts told) (state_so rules starts states are) beyond (right_so right) fine none w (sight rules driver_tells store_tells of.machine) at
         (if_found IsEnded (slice_get seen_all w) (sight rules driver_tells store_tells of.machine) at (ended w));
     passed = λ w back.
         let of = of_driver rules driver_tells store_tells machines w back.driver back.driver_so in
         let at = map_get (sight rules driver_tells store_tells) machines w of.machine of.at in
-        passed_over rules plan states links seen_all starts all part_so told_so state_so beyond (right_so right) fine none w (sight rules driver_tells store_tells of.machine) at
+        passed_over rules plan states links seen_all starts all (part_so rules starts plan parts) (told_so rules starts told) (state_so rules starts states are) beyond (right_so right) fine none w (sight rules driver_tells store_tells of.machine) at
         (if_found IsEnded (slice_get seen_all w) (sight rules driver_tells store_tells of.machine) at (ended w));
   }
 

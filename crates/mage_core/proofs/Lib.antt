@@ -6,6 +6,7 @@ mod Holding
 mod Storing
 mod Going
 mod Starting
+mod Handed
 mod Turning
 mod Waiting
 mod Stepping

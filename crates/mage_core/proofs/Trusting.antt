@@ -40,7 +40,8 @@ use Rattle.mage_core.proofs.Deciding.{SomeWrong, decide_first, never_wrong, seal
 use Rattle.mage_core.proofs.Sufficing.{Leaves, leaves_all}
 use Rattle.mage_core.proofs.Last.{Last, last_of, Was, IsSame, HasStopped, was_grown}
 use Rattle.mage_core.proofs.Fronts.{EndsJoint, ends_joint, stops_first}
-use Rattle.mage_core.proofs.Beginning.{drivers, stores, part_so, told_so, state_so, seen_count, seen_at, of_each, back_between}
+use Rattle.mage_core.proofs.Handed.{part_so, told_so, state_so}
+use Rattle.mage_core.proofs.Beginning.{drivers, stores, seen_count, seen_at, of_each, back_between}
 
 -- ---- sealed transfers
 
