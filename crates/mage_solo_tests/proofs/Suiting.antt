@@ -1,5 +1,5 @@
--- Stores that suit the parts of a program on pages of 64 wires of one byte each.
-use Rattle.std.proofs.Common.{◌≡◌, ◌+◌, ℕ, zero, suc, List, [], ◌∷◌, length, Option, None, Some, slice_get, refl, sym, ap, ◌∙◌, subst, arith}
+-- Stores that suit the parts of a program on pages of 64 wires of so many bytes each.
+use Rattle.std.proofs.Common.{◌≡◌, ◌+◌, ◌*◌, ℕ, zero, suc, List, [], ◌∷◌, length, Option, None, Some, slice_get, refl, sym, ap, ◌∙◌, subst, arith}
 use Rattle.std.proofs.lemmas.List.Elements.{All-cons}
 use Rattle.std.specs.Prelude.{IfSome, Vec}
 use Rattle.std.specs.Global.{Global}
@@ -30,41 +30,44 @@ if_some : {X : Type 0} (P Q : X → Type 0) (o : Option X) → ((x : X) → P x 
 if_some P Q None f h = tt
 if_some P Q (Some x) f h = f x h
 
--- a shelf with one store of pages of 64 bytes
-pub record HasOne {S : Type 0} (tells : S → StoreTold) (shelf : Vec S Global) : Type 0 where
-  pub one : length shelf.items ≡ 1
-  pub bytes : All (λ store. (tells store).page_bytes ≡ 64) shelf.items
+module _ {S : Type 0} (wire_bytes : ℕ) (tells : S → StoreTold) where
+  -- a shelf with one store, whose pages have 64 wires
+  pub record HasOne (shelf : Vec S Global) : Type 0 where
+    pub one : length shelf.items ≡ 1
+    pub bytes : All (λ store. (tells store).page_bytes ≡ 64 * wire_bytes) shelf.items
 
-each_has : {S : Type 0} (tells : S → StoreTold) (stores : List (Vec S Global)) (w : ℕ) → All (HasOne tells) stores → IfSome (slice_get stores w) (HasOne tells)
-each_has tells [] zero all = tt
-each_has tells [] (suc w) all = tt
-each_has tells (x ∷ xs) zero all = all 0 x (omega arith)
-each_has tells (x ∷ xs) (suc w) all = each_has tells xs w (λ k d h. all (suc k) d (omega (arith, h)))
+  each_has : (stores : List (Vec S Global)) (w : ℕ) → All HasOne stores → IfSome (slice_get stores w) HasOne
+  each_has [] zero all = tt
+  each_has [] (suc w) all = tt
+  each_has (x ∷ xs) zero all = all 0 x (omega arith)
+  each_has (x ∷ xs) (suc w) all = each_has xs w (λ k d h. all (suc k) d (omega (arith, h)))
 
-pub suits_of : {S : Type 0} (tells : S → StoreTold) (plan : MemProgram) (parts : List WorkerPart) (stores : List (Vec S Global)) → parts ≡ parts_of plan →
-    plan.limits.page ≡ 64 → All (HasOne tells) stores →
-    (w : ℕ) → IfSome (slice_get parts w) (λ part. IfSome (slice_get stores w) (λ shelf. HasStoreOf 1 tells part shelf.items))
-suits_of {S} tells plan parts stores are page all w =
-    subst (λ (ps : List WorkerPart). IfSome (slice_get ps w) (λ part. IfSome (slice_get stores w) (λ shelf. HasStoreOf 1 tells part shelf.items))) (sym are)
-    (if_some (λ (part : WorkerPart). part.limits ≡ plan.limits) (λ (part : WorkerPart). IfSome (slice_get stores w) (λ shelf. HasStoreOf 1 tells part shelf.items))
-    (slice_get (parts_of plan) w)
-    (λ part same. if_some (HasOne tells) (λ (shelf : Vec S Global). HasStoreOf 1 tells part shelf.items) (slice_get stores w)
-    (λ shelf has. record {
-      one = has.one;
-      bytes = λ k d h. (let long : part.limits.page ≡ plan.limits.page = ap (λ (l : Limits). l.page) same in
-          let is = has.bytes k d h in omega (arith, long, page, is));
-    }) (each_has tells stores w all))
-    (part_limits plan.limits plan.stores 0 plan.workers w))
+  pub suits_of : (plan : MemProgram) (parts : List WorkerPart) (stores : List (Vec S Global)) → parts ≡ parts_of plan →
+      plan.limits.page ≡ 64 → All HasOne stores →
+      (w : ℕ) → IfSome (slice_get parts w) (λ part. IfSome (slice_get stores w) (λ shelf. HasStoreOf wire_bytes tells part shelf.items))
+  suits_of plan parts stores are page all w =
+      subst (λ (ps : List WorkerPart). IfSome (slice_get ps w) (λ part. IfSome (slice_get stores w) (λ shelf. HasStoreOf wire_bytes tells part shelf.items))) (sym are)
+      (if_some (λ (part : WorkerPart). part.limits ≡ plan.limits) (λ (part : WorkerPart). IfSome (slice_get stores w) (λ shelf. HasStoreOf wire_bytes tells part shelf.items))
+      (slice_get (parts_of plan) w)
+      (λ part same. if_some HasOne (λ (shelf : Vec S Global). HasStoreOf wire_bytes tells part shelf.items) (slice_get stores w)
+      (λ shelf has. record {
+        one = has.one;
+        bytes = λ k d h. has.bytes k d h ∙ ap (λ (n : ℕ). n * wire_bytes) (sym (ap (λ (l : Limits). l.page) same ∙ page));
+      }) (each_has stores w all))
+      (part_limits plan.limits plan.stores 0 plan.workers w))
 
-pub one_shelf : {S : Type 0} (tells : S → StoreTold) (stores : List (Vec S Global)) (shelf : Vec S Global) (store : S) → stores ≡ shelf ∷ [] → shelf.items ≡ store ∷ [] →
-    (tells store).page_bytes ≡ 64 → All (HasOne tells) stores
-one_shelf {S} tells stores shelf store are items page =
-    subst (All (HasOne tells)) (sym are) (All-cons (HasOne tells) shelf [] (record {
-      one = ap length items;
-      bytes = subst (All (λ s. (tells s).page_bytes ≡ 64)) (sym items) (All-cons (λ s. (tells s).page_bytes ≡ 64) store [] page (λ k d h. absurd (omega (arith, h))));
-    }) (λ k d h. absurd (omega (arith, h))))
+  pub lone_shelf : (stores : List (Vec S Global)) (shelf : Vec S Global) → stores ≡ shelf ∷ [] → HasOne shelf → All HasOne stores
+  lone_shelf stores shelf are h = subst (All HasOne) (sym are) (All-cons HasOne shelf [] h (λ k d less. absurd (omega (arith, less))))
 
-pub two_shelves : {S : Type 0} (tells : S → StoreTold) (stores : List (Vec S Global)) (one two : Vec S Global) → stores ≡ one ∷ two ∷ [] → HasOne tells one → HasOne tells two →
-    All (HasOne tells) stores
-two_shelves tells stores one two are h k =
-    subst (All (HasOne tells)) (sym are) (All-cons (HasOne tells) one (two ∷ []) h (All-cons (HasOne tells) two [] k (λ n d less. absurd (omega (arith, less)))))
+  pub one_shelf : (stores : List (Vec S Global)) (shelf : Vec S Global) (store : S) → stores ≡ shelf ∷ [] → shelf.items ≡ store ∷ [] →
+      (tells store).page_bytes ≡ 64 * wire_bytes → All HasOne stores
+  one_shelf stores shelf store are items page =
+      lone_shelf stores shelf are (record {
+        one = ap length items;
+        bytes = subst (All (λ s. (tells s).page_bytes ≡ 64 * wire_bytes)) (sym items)
+            (All-cons (λ s. (tells s).page_bytes ≡ 64 * wire_bytes) store [] page (λ k d h. absurd (omega (arith, h))));
+      })
+
+  pub two_shelves : (stores : List (Vec S Global)) (one two : Vec S Global) → stores ≡ one ∷ two ∷ [] → HasOne one → HasOne two → All HasOne stores
+  two_shelves stores one two are h k =
+      subst (All HasOne) (sym are) (All-cons HasOne one (two ∷ []) h (All-cons HasOne two [] k (λ n d less. absurd (omega (arith, less)))))

@@ -35,8 +35,8 @@ fn shelf(alloc: Global, fails: &[u64]) -> Result<Vec<MemStore>, Memory>
     Ok(shelf)
 }
 
-// Two lists of values.
-fn both(alloc: Global, given: Given<'_>) -> Result<Vec<Vec<u128>>, Memory>
+/// Two lists of values.
+pub(crate) fn both(alloc: Global, given: Given<'_>) -> Result<Vec<Vec<u128>>, Memory>
     ensures { IfOk result (λ lists. length lists.items ≡ 2) }
 {
     let mut lists = Vec::new(alloc);

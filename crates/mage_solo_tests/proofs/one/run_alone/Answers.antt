@@ -23,7 +23,7 @@ run_plain-requires-clause-stores g c =
 
 pub run_plain-requires-clause-suits : goal.run_plain-requires-clause-suits
 run_plain-requires-clause-suits g c =
-    suits_of g.S.Store.tells c.in_ok-plan.plan c.parts.result.items c.push-2.new.self.items (c.parts.ensures.parts ∙ c.in-Ok.ensures.parts) c.in_ok-plan.ensures.page
-    (one_shelf g.S.Store.tells c.push-2.new.self.items c.push.new.self c.args.store
+    suits_of 1 g.S.Store.tells c.in_ok-plan.plan c.parts.result.items c.push-2.new.self.items (c.parts.ensures.parts ∙ c.in-Ok.ensures.parts) c.in_ok-plan.ensures.page
+    (one_shelf 1 g.S.Store.tells c.push-2.new.self.items c.push.new.self c.args.store
     (c.in_ok-push-2.ensures.items ∙ ap (λ l. l ++ c.push.new.self ∷ []) c.new-stores.ensures.items)
     (c.in_ok-push.ensures.items ∙ ap (λ l. l ++ c.args.store ∷ []) c.new-shelf.ensures.items) c.requires.page)

@@ -25,8 +25,8 @@ run_plain-requires-clause-stores c =
 
 pub run_plain-requires-clause-suits : goal.run_plain-requires-clause-suits
 run_plain-requires-clause-suits c =
-    suits_of store_told c.in_ok-plan.plan c.parts.result.items c.push-2.new.self.items (c.parts.ensures.parts ∙ c.in-Ok.ensures.parts) c.in_ok-plan.ensures.page
-    (two_shelves store_told c.push-2.new.self.items c.in_ok-shelf.field-0 c.in_ok-shelf-2.field-0
+    suits_of 1 store_told c.in_ok-plan.plan c.parts.result.items c.push-2.new.self.items (c.parts.ensures.parts ∙ c.in-Ok.ensures.parts) c.in_ok-plan.ensures.page
+    (two_shelves 1 store_told c.push-2.new.self.items c.in_ok-shelf.field-0 c.in_ok-shelf-2.field-0
     (c.in_ok-push-2.ensures.items ∙ ap (λ l. l ++ c.in_ok-shelf-2.field-0 ∷ [])
     (c.in_ok-push.ensures.items ∙ ap (λ l. l ++ c.in_ok-shelf.field-0 ∷ []) c.new-stores.ensures.items))
     (record { one = c.in_ok-shelf.ensures.0; bytes = c.in_ok-shelf.ensures.1 }) (record { one = c.in_ok-shelf-2.ensures.0; bytes = c.in_ok-shelf-2.ensures.1 }))
