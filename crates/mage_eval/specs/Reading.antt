@@ -38,6 +38,11 @@ short_at at left = fault.Short (count_after at (length left))
 abbrev pub wrong_piece : (count at : ℕ) → (left : List ℕ) → Option DriverFault
 wrong_piece count at left = if nat_le count (length left) then None else Some (short_at at left)
 
+-- what was wrong before, or else what is wrong now
+abbrev pub sooner : Option DriverFault → Option DriverFault → Option DriverFault
+sooner None now = now
+sooner (Some f) now = Some f
+
 -- Why reading failed: the source did, or it is what is wrong with the stream, where that is told.
 abbrev pub Fails : (wrong : Option DriverFault) → (before after : Incoming) → DriverFault → Type 0
 Fails wrong before after fault.Source =

@@ -14,7 +14,7 @@ use Rattle.mage_driver.specs.declared.standing.Standing.TheVariants as standing
 use Rattle.mage_driver.specs.Rules.{Begins, Rules}
 use Rattle.mage_streams.specs.Evaluating.{Evaluator, after_reading, after_taking, after_output, decoded_bits, label_of_and, taken_labels}
 use Rattle.mage_streams.specs.Streams.{new_evaluator}
-use Rattle.mage_eval.specs.Reading.{at_after_colours, at_after_labels, wrong_at_colours, wrong_at_end, wrong_piece}
+use Rattle.mage_eval.specs.Reading.{at_after_colours, at_after_labels, sooner, wrong_at_colours, wrong_at_end, wrong_piece}
 
 pub record Evaluating : Type 0 where
   pub evaluator : Evaluator
@@ -23,7 +23,7 @@ pub record Evaluating : Type 0 where
   pub steady : Bool
   -- how many outputs are kept
   pub room : ℕ
-  -- what was wrong with the stream at the last call
+  -- what was wrong with the stream, at the first call at which something was
   pub wrong : Option DriverFault
 
 -- before the first call: the labels that were dealt, how many outputs are kept, and the stream
@@ -83,7 +83,7 @@ eval_rules = record {
     record s {
       evaluator = after_reading s.evaluator;
       at = count_after s.at 32;
-      wrong = wrong_piece 32 s.at s.evaluator.left;
+      wrong = sooner s.wrong (wrong_piece 32 s.at s.evaluator.left);
     },
     label_of_and s.evaluator a b,
   );
@@ -91,16 +91,16 @@ eval_rules = record {
     record s {
       evaluator = after_taking s.evaluator whose count;
       at = at_after_input s whose count;
-      wrong = wrong_at_input s whose count;
+      wrong = sooner s.wrong (wrong_at_input s whose count);
     },
     taken_labels s.evaluator whose count,
   );
   output = λ s wires. record s {
     evaluator = after_kept s wires;
     at = at_after_colours wires s.at;
-    wrong = wrong_at_colours wires s.at s.evaluator.left;
+    wrong = sooner s.wrong (wrong_at_colours wires s.at s.evaluator.left);
   };
-  finish = λ s. record s { wrong = wrong_at_end s.at s.evaluator.left };
+  finish = λ s. record s { wrong = sooner s.wrong (wrong_at_end s.at s.evaluator.left) };
   due = λ from to. to.wrong;
   Stops = StopsAt;
   outputs = λ s. s.evaluator.outputs;
