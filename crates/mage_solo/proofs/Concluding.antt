@@ -1,7 +1,9 @@
 -- What a run that evaluates answers.
-use Rattle.std.proofs.Common.{◌≡◌, ◌<◌, ◌⊎◌, inl, inr, ℕ, true, false, List, [], ◌++◌, length, map, replicate, None, Some, Result, Ok, Err, slice_get, refl, sym, ap, ◌∙◌, subst}
+use Rattle.std.proofs.Common.{◌≡◌, ◌<◌, ◌⊎◌, inl, inr, ℕ, true, false, List, [], ◌∷◌, ◌++◌, length, map, replicate, Option, None, Some, Result, Ok, Err, slice_get, refl, sym, ap, ◌∙◌, subst}
+use Rattle.std.proofs.lemmas.List.Elements.{All-head}
+use Rattle.std.specs.List.{All}
 use Rattle.std.proofs.lemmas.List.{length-map, reverse-reverse}
-use Rattle.std.specs.Prelude.{IfSome, IfErr, IsTrue, Vec, reverse}
+use Rattle.std.specs.Prelude.{IfSome, IfErr, IsSome, IsTrue, Vec, reverse}
 use Rattle.std.specs.Global.{Global}
 use Rattle.mage_base.specs.declared.failure.Damage.{Damage}
 use Rattle.mage_base.specs.Source.{SourceTold}
@@ -19,21 +21,24 @@ use Rattle.mage_verify.specs.Faults.{fault_of}
 use Rattle.mage_verify.specs.Parts.{WorkerPart, parts_of}
 use Rattle.mage_eval.specs.Rule.{Evaluating, eval_rules}
 use Rattle.mage_carried.specs.Laws.{CanRun, Carries}
+use Rattle.mage_carried.proofs.Starting.{carried_so}
 use Rattle.mage_garbled_runs.specs.Runs.{AreWhole}
 use Rattle.mage_core.specs.Answered.{AreStates, AreTold}
+use Rattle.mage_core.specs.Begun.{BeginsJoint}
 use Rattle.mage_core.specs.Joined.{RunsJoint, WasDeceived}
 use Rattle.mage_core.specs.Made.{shelves}
 use Rattle.mage_core.specs.Results.{starts_of, ComesTo}
 use Rattle.mage_core.specs.Steady.{IsNotOfStore}
 use Rattle.mage_core.specs.declared.fault.RunFault.{RunFault}
 use Rattle.mage_core.specs.declared.fault.RunFault.TheVariants as fault
-use Rattle.mage_solo.specs.Stores.{told_by, AllSuffice, WereDeceived}
-use Rattle.mage_solo.specs.Evaluating.{AllTellLeft, AllSteady, Drawn, NoneFailed, HasStopped, EvalStops, IsOfNoStore, IsOfAStream, stream_fault, decoded_by, evaluators_of, evaluator_openings, labels_in, outputs_of, AreClosed, GivesBack, AreMadeFor}
-use Rattle.mage_solo.proofs.Lists.{if_found, Ones, ones_of, mapped_ones}
+use Rattle.mage_solo.specs.Stores.{told_by, AllSuffice, SufficesFor, WereDeceived}
+use Rattle.mage_solo.specs.Evaluating.{AllTellLeft, AllSteady, Drawn, NoneFailed, HasStopped, EvalStops, IsOfNoStore, IsOfAStream, IsForItsStream, stream_fault, source_at, no_source, decoded_by, evaluators_of, evaluator_openings, labels_in, outputs_of, AreClosed, GivesBack, AreMadeFor}
+use Rattle.mage_solo.proofs.Lists.{if_found, found_below, get_within, index_found, Ones, ones_of, mapped_ones}
 use Rattle.mage_solo.proofs.Workers.{broken_ones, damaged_ones, undamaged}
 use Rattle.mage_solo.proofs.Streaming.{same_map}
 use Rattle.mage_solo.proofs.Drawing.{faults_of, closed_faults, none_failed, opened_faults, made_all}
-use Rattle.mage_solo.proofs.Evaluation.{evaluator_openings_count, are_told, are_states, stopped_so, unfailed_so, said_so}
+use Rattle.mage_solo.proofs.Evaluation.{evaluator_openings_count, are_told, are_states, stopped_so, unfailed_so, said_so, wrong_so}
+use Rattle.mage_solo.proofs.Plainly.{parts_count}
 
 -- what is known of a run whose drivers were made and taken apart
 pub record Ran (parts : List WorkerPart) (labels : List (List Label)) (sources : List SourceTold) (drivers now : List (Told Evaluating))
@@ -100,6 +105,26 @@ module _ (parts : List WorkerPart) (labels : List (List Label)) (sources : List 
       let steady : source.new.steady ≡ true = if_found (λ (s : SourceTold). IsTrue s.steady) (slice_get sources' w) source.new source.new_so (all w) in
       let never : true ≡ false = sym steady ∙ unsteady in cc
 
+  never_unsteady : (w : ℕ) → w < length sources → AllSteady sources → (source_at sources w).steady ≡ false → ⊥
+  never_unsteady w within all unsteady =
+      let found = found_below sources w within in
+      let steady : found.0.steady ≡ true = if_found (λ (s : SourceTold). IsTrue s.steady) (slice_get sources w) found.0 found.1 (all w) in
+      let never : true ≡ false = sym steady ∙ sym (ap (λ (s : SourceTold). s.steady) (index_found sources w found.0 no_source found.1)) ∙ unsteady in cc
+
+  -- a store that suffices tells its pages
+  never_deceived : AllSuffice parts before → WereDeceived parts before after → ⊥
+  never_deceived all was =
+      let part = was.worker.part in
+      let old = was.worker.old in
+      let shelf = if_found (λ (p : WorkerPart). IfSome (slice_get before was.number) (All (SufficesFor p))) (slice_get parts was.number) part was.worker.part_so (all was.number) in
+      let one = if_found (All (SufficesFor part)) (slice_get before was.number) (old ∷ []) was.worker.old_so shelf in
+      let told : IsSome old.pages = (All-head (SufficesFor part) old [] one).told in
+      never old.pages told was.untold
+    where
+      never : {X : Type 0} (o : Option X) → IsSome o → o ≡ None → ⊥
+      never None h e = absurd cc
+      never (Some x) h e = absurd cc
+
   -- and where the sources are steady, only a stream does
   pub eval_steady : AllSteady sources' → (found : RunFault) → IsOfNoStore found → EvalStops parts before after sources sources' found → IsOfAStream found
   eval_steady all (fault.Store w) spared stops = spared
@@ -124,6 +149,45 @@ module _ (parts : List WorkerPart) (labels : List (List Label)) (sources : List 
         (λ joint. said_so parts labels sources now r.b.each r.a.each count emitted plan fine is none carried can whole
         r.long_l r.long_s r.kept r.b.long r.a.long (joint (evaluators_of (program_of count emitted) labels sources)
         (are_states parts labels sources now r.b.each r.a.each count emitted plan fine is none carried can whole)))
+
+    workers : length now ≡ count
+    workers = r.kept ∙ ap length is ∙ parts_count plan ∙ (carried_so count emitted plan carried).workers
+
+    wrong_driver : (w : ℕ) (f : DriverFault) → w < count → ((states : ℕ → Evaluating) → AreStates (starts_of parts drivers before) states →
+        BeginsJoint eval_rules plan states (starts_of parts drivers before) now after (Some (fault.Driver w f)) ⊎ WasDeceived (starts_of parts drivers before) now after) →
+        IsForItsStream (program_of count emitted) labels sources (fault.Driver w f) ⊎ WereDeceived parts before after
+    wrong_driver w f within = carry_over (λ ds x y. ((states : ℕ → Evaluating) → AreStates (starts_of parts ds x) states →
+        BeginsJoint eval_rules plan states (starts_of parts ds x) now y (Some (fault.Driver w f)) ⊎ WasDeceived (starts_of parts ds x) now y) →
+        IsForItsStream (program_of count emitted) labels sources (fault.Driver w f) ⊎ WereDeceived parts x y)
+        (λ begins. wrong_so parts labels sources now r.b.each r.a.each count emitted plan fine is none carried can whole
+        r.long_l r.long_s r.kept r.b.long r.a.long w f within (begins (evaluators_of (program_of count emitted) labels sources)
+        (are_states parts labels sources now r.b.each r.a.each count emitted plan fine is none carried can whole)))
+
+    -- why a run stopped
+    pub wrong_end : (found : RunFault) → ComesTo (starts_of parts drivers before) now after (Some found) →
+        ((found ≡ fault.Memory → ⊥) → (states : ℕ → Evaluating) → AreStates (starts_of parts drivers before) states →
+        BeginsJoint eval_rules plan states (starts_of parts drivers before) now after (Some found) ⊎ WasDeceived (starts_of parts drivers before) now after) →
+        IsForItsStream (program_of count emitted) labels sources found ⊎ WereDeceived parts before after
+    wrong_end (fault.Store w) came begins = inl tt
+    wrong_end (fault.Driver w f) came begins =
+        wrong_driver w f (subst (λ n. w < n) workers (get_within now w came.0.driver came.0.driver_so)) (begins (λ e. absurd cc))
+    wrong_end (fault.Damaged w damage) came begins = inl tt
+    wrong_end fault.Memory came begins = inl tt
+
+    -- where nothing is wrong with the streams, the sources are steady and the stores suffice
+    pub runs_end : AllSuffice parts before → AllSteady sources → ((w : ℕ) → w < count → stream_fault (program_of count emitted) labels sources w ≡ None) →
+        (found : RunFault) → ComesTo (starts_of parts drivers before) now after (Some found) → IsOfNoStore found →
+        IsForItsStream (program_of count emitted) labels sources found ⊎ WereDeceived parts before after → found ≡ fault.Memory
+    runs_end all steady right (fault.Store w) came spared wrong = absurd spared
+    runs_end all steady right (fault.Damaged w damage) came spared wrong = absurd spared
+    runs_end all steady right fault.Memory came spared wrong = refl
+    runs_end all steady right (fault.Driver w f) came spared (inr deceived) = absurd (never_deceived all deceived)
+    runs_end all steady right (fault.Driver w f) came spared (inl (inl source)) =
+        let within : w < length sources = subst (λ n. w < n) (r.kept ∙ sym r.long_s) (get_within now w came.0.driver came.0.driver_so) in
+        absurd (never_unsteady w within steady source.1)
+    runs_end all steady right (fault.Driver w f) came spared (inl (inr due)) =
+        let none = right w (subst (λ n. w < n) workers (get_within now w came.0.driver came.0.driver_so)) in
+        absurd (let never : None ≡ Some f = sym none ∙ due in cc)
 
 -- the same of what the call has in hand
 module _ {I S : Type 0} (tells : I → SourceTold) (store_tells : S → StoreTold) (parts slice : List WorkerPart) (labels : List (Vec Label Global))

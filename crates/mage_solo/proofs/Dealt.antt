@@ -1,5 +1,5 @@
 -- A run that evaluates labels and streams of one seed puts out what the program means.
-use Rattle.std.proofs.Common.{◌≡◌, ◌<◌, ◌≤◌, ◌++◌, ◌⊎◌, inl, inr, ℕ, Bool, true, false, cond, nat_eq, nat_lt, List, [], ◌∷◌, length, is_some, Some, slice_get, unwrap_or, refl, sym, ap, ap₂, ◌∙◌, subst, arith}
+use Rattle.std.proofs.Common.{◌≡◌, ◌<◌, ◌≤◌, ◌++◌, ◌⊎◌, inl, inr, ℕ, Bool, true, false, cond, nat_eq, nat_lt, List, [], ◌∷◌, length, is_some, None, Some, slice_get, unwrap_or, refl, sym, ap, ap₂, ◌∙◌, subst, arith}
 use Rattle.std.proofs.lemmas.Bool.Decides.{nat_tests}
 use Rattle.std.proofs.Math.Path.{fun_ext}
 use Rattle.std.specs.Prelude.{IsTrue}
@@ -15,14 +15,15 @@ use Rattle.mage_meaning.specs.Given.{Given}
 use Rattle.mage_meaning.specs.Means.{means_of}
 use Rattle.mage_relations.specs.Unplaced.{Unplaced, starting_in, made_by, after_emitted, calls_of}
 use Rattle.mage_streams.specs.Garbling.{garbling, said_at}
-use Rattle.mage_streams.specs.Streams.{decoded_outputs, new_garbler, garbler_calls, dealt_at}
+use Rattle.mage_streams.specs.Streams.{decoded_outputs, new_evaluator, new_garbler, garbler_calls, dealt_at}
 use Rattle.mage_garbled_runs.specs.Runs.{AreWhole}
 use Rattle.mage_garbled_runs.specs.Meant.{CanRunOn, labels_of, streams_of}
 use Rattle.mage_garbled_runs.proofs.Meant.{decoded_is_meant, whole_dealt}
 use Rattle.mage_eval.specs.Reading.{tells_left}
-use Rattle.mage_solo.specs.Evaluating.{AreDealt, AreStreams, AllTellLeft, no_source, stream_at, decoded_by}
+use Rattle.mage_solo.specs.Evaluating.{AreDealt, AreStreams, AllTellLeft, evaluators_of, stream_fault, no_source, stream_at, decoded_by}
 use Rattle.mage_solo.proofs.Lists.{if_found, if_each, found_below, index_found, index_past, list_found, list_past, same_lists}
 use Rattle.mage_solo.proofs.Plainly.{means_count}
+use Rattle.mage_solo.proofs.Clean.{nothing_wrong}
 use Rattle.mage_solo.proofs.Evaluation.{decoded_count, decoded_at}
 
 -- a worker that none of the instructions is of has no calls
@@ -83,6 +84,12 @@ module _ (count : ℕ) (emitted : List Emitted) (given : Given) (seed : List ℕ
     dealt_whole w =
         subst (λ (own : List Label). AreWhole own) (sym (each_labels w))
         (whole_dealt (garbler_calls (program_of count emitted) seed (list_at given.garbler) w) (list_at given.evaluator w))
+
+    -- nothing is wrong with them
+    pub streams_right : (w : ℕ) → stream_fault (program_of count emitted) labels sources w ≡ None
+    streams_right w =
+        nothing_wrong (program_of count emitted) seed (list_at given.garbler) (list_at given.evaluator) (evaluators_of (program_of count emitted) labels sources)
+        (λ v. ap₂ (new_evaluator v) (each_labels v) (each_stream v)) (λ v. refl) w
 
     pub decoded_meant : decoded_by (program_of count emitted) labels sources count ≡ means_of (program_of count emitted) given
     decoded_meant =

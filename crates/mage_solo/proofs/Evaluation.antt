@@ -1,5 +1,5 @@
 -- A run that evaluates puts out what is decoded.
-use Rattle.std.proofs.Common.{◌≡◌, ◌<◌, ◌+◌, ◌++◌, ◌⊎◌, inl, inr, ℕ, zero, suc, List, [], ◌∷◌, length, map, Option, None, Some, slice_get, refl, sym, ap, ◌∙◌, subst, take_all, arith}
+use Rattle.std.proofs.Common.{◌≡◌, ◌<◌, ◌+◌, ◌++◌, ◌⊎◌, inl, inr, ℕ, zero, suc, List, [], ◌∷◌, length, map, None, Some, slice_get, refl, sym, ap, ◌∙◌, subst, take_all, arith}
 use Rattle.std.proofs.lemmas.List.{length-map}
 use Rattle.std.proofs.lemmas.List.Elements.{All-cons}
 use Rattle.std.specs.Prelude.{IsTrue}
@@ -15,7 +15,7 @@ use Rattle.mage_driver.specs.declared.standing.Standing.TheVariants as standing
 use Rattle.mage_driver.specs.Calls.{Told, Call, Finish, NoneIsDue, RoseFor, call_of}
 use Rattle.mage_label.specs.declared.labels.Label.{Label}
 use Rattle.mage_linked.specs.declared.emitted.Emitted.{Emitted}
-use Rattle.mage_linked.specs.Emission.{program_of}
+use Rattle.mage_linked.specs.Emission.{program_of, emission_of}
 use Rattle.mage_linked.specs.Workers.{list_at, below}
 use Rattle.mage_network.specs.Workers.{said_in}
 use Rattle.mage_relations.specs.Unplaced.{starting_in, run_of, calls_of}
@@ -38,12 +38,13 @@ use Rattle.mage_steps.specs.Core.{joint_after}
 use Rattle.mage_verified_runs.specs.Turns.{verified_turns}
 use Rattle.mage_core.specs.Answered.{AreStates, AreTold}
 use Rattle.mage_core.specs.Going.{Start}
+use Rattle.mage_core.specs.Begun.{BeginsJoint}
 use Rattle.mage_core.specs.Joined.{RunsJoint, WasDeceived}
 use Rattle.mage_core.specs.Results.{starts_of, Back, ComesTo}
 use Rattle.mage_core.specs.declared.fault.RunFault.TheVariants as fault
 use Rattle.mage_solo.specs.Stores.{WereDeceived}
 use Rattle.mage_solo.specs.Plain.{outputs_done}
-use Rattle.mage_solo.specs.Evaluating.{NoneFailed, FailedFor, HasStopped, AreClosed, evaluator_opening, evaluator_openings, evaluators_of, evaluator_calls, source_at, stream_at, rooms_of, no_source, AllTellLeft, sooner, first_due, stream_fault, decoded_by, outputs_of}
+use Rattle.mage_solo.specs.Evaluating.{NoneFailed, FailedFor, HasStopped, AreClosed, evaluator_opening, evaluator_openings, evaluators_of, source_at, stream_at, rooms_of, no_source, AllTellLeft, IsForItsStream, evaluator_at_end, stream_fault, decoded_by, outputs_of}
 use Rattle.mage_solo.proofs.Lists.{same_some, if_found, if_each, map_get, found_below, found_beside, get_within, index_found, list_found, same_lists, ones_of}
 use Rattle.mage_solo.proofs.Workers.{start_at, at_start, at_store, deceived_so}
 use Rattle.mage_solo.proofs.Rooms.{rooms_same, own_at}
@@ -51,6 +52,7 @@ use Rattle.mage_solo.proofs.Agreeing.{joint_agrees}
 use Rattle.mage_solo.proofs.Plainly.{part_does, parts_count}
 use Rattle.mage_solo.proofs.Decoded.{decoded_few}
 use Rattle.mage_solo.proofs.Drawing.{closed_faults, closed_at}
+use Rattle.mage_solo.proofs.Sticking.{AllStick, all_stick, stick_first, stick_behind, stopped_for, last_passed}
 
 -- ---- the drivers at first
 
@@ -192,10 +194,6 @@ module _ (parts : List WorkerPart) (labels : List (List Label)) (sources : List 
 
 -- ---- the program
 
-none_due : (calls : List (Call Evaluating Label)) → NoneIsDue eval_rules calls → first_due calls ≡ None
-none_due [] h = refl
-none_due (call ∷ calls) h = ap (λ (o : Option DriverFault). sooner o (first_due calls)) h.0 ∙ none_due calls h.1
-
 module _ (parts : List WorkerPart) (labels : List (List Label)) (sources : List SourceTold) (now : List (Told Evaluating)) (before after : List StoreTold)
     (count : ℕ) (emitted : List Emitted) (plan : MemProgram) (fine : IsMemProgram plan) (is : parts ≡ parts_of plan) (none : fault_of plan ≡ None)
     (carried : Carries count emitted plan) (can : CanRun count emitted) (whole : (w : ℕ) → AreWhole (list_at labels w)) where
@@ -217,9 +215,16 @@ module _ (parts : List WorkerPart) (labels : List (List Label)) (sources : List 
       (makes_wires eval_rules evaluating_is_lawful labels_whole evaluator_gives_wires) plan count emitted
       states (λ n. whole_test (list_at labels n) (whole n)) can carried
 
+  -- all calls of a worker's evaluator, but for its end
+  abbrev calls_before : (worker : ℕ) → List (Call Evaluating Label)
+  calls_before worker = calls_of eval_rules worker (starting_in states) (emission_of (program_of count emitted))
+
+  abbrev last_call : (worker : ℕ) → Call Evaluating Label
+  last_call worker = call_of eval_rules (evaluator_at_end (program_of count emitted) labels sources worker) Finish
+
   -- what a worker's evaluator was asked in the joint run
-  pub asked : (w : ℕ) → w < count →
-      said_in (joint_after eval_rules plan states (verified_turns plan.workers) w).past ≡ evaluator_calls (program_of count emitted) labels sources w
+  asked : (w : ℕ) → w < count →
+      said_in (joint_after eval_rules plan states (verified_turns plan.workers) w).past ≡ calls_before w ++ last_call w ∷ []
   asked w within =
       ap (λ worker. said_in worker.past) (sym (joint_agrees eval_rules plan states fine none ran.turns w (ran.ends w)))
       ∙ (ran.did w within).calls
@@ -257,7 +262,7 @@ module _ (parts : List WorkerPart) (labels : List (List Label)) (sources : List 
       same_lists (outputs_of now) (decoded_by (program_of count emitted) labels sources count)
           (long ∙ sym (decoded_count count (decoded_outputs (program_of count emitted) (list_at labels) (stream_at sources))))
           (λ w h. each w (subst (λ n. w < n) long h)),
-      λ w within. none_due (evaluator_calls (program_of count emitted) labels sources w)
+      λ w within. last_passed (calls_before w) (last_call w)
           (subst (λ (calls : List (Call Evaluating Label)). NoneIsDue eval_rules calls) (asked w within) (joined.passed w (at_worker w within).back)),
     )
       where
@@ -272,3 +277,22 @@ module _ (parts : List WorkerPart) (labels : List (List Label)) (sources : List 
             ∙ ap (λ (s : Evaluating). s.evaluator.outputs) (joined.stands w at.back)
             ∙ put_out w within
             ∙ sym (decoded_at count (decoded_outputs (program_of count emitted) (list_at labels) (stream_at sources)) w within)
+
+    -- a driver that stopped did so at its source, or for what is wrong with its stream
+    stopped_due : (w : ℕ) (f : DriverFault) → w < count → BeginsJoint eval_rules plan states its now (ones_of after) (Some (fault.Driver w f)) →
+        IsForItsStream (program_of count emitted) labels sources (fault.Driver w f)
+    stopped_due w f within begun =
+        let at = at_worker w within in
+        let stops = begun.caused w f refl at.back in
+        let last = stream_fault (program_of count emitted) labels sources w in
+        let all : AllStick (states w).steady last (stops.before ++ (stops.step ++ stops.later)) =
+        subst (AllStick (states w).steady last) (sym (asked w within) ∙ stops.are) (all_stick states (emission_of (program_of count emitted)) w) in
+        stopped_for (states w).steady last stops.step f at.back.driver.state
+        (stick_first (states w).steady last stops.step stops.later (stick_behind (states w).steady last stops.before (stops.step ++ stops.later) all)) stops.stopped
+
+    pub wrong_so : (w : ℕ) (f : DriverFault) → w < count →
+        BeginsJoint eval_rules plan states its now (ones_of after) (Some (fault.Driver w f)) ⊎ WasDeceived its now (ones_of after) →
+        IsForItsStream (program_of count emitted) labels sources (fault.Driver w f) ⊎ WereDeceived parts (ones_of before) (ones_of after)
+    wrong_so w f within (inl begun) = inl (stopped_due w f within begun)
+    wrong_so w f within (inr was) = inr (deceived_so parts (evaluator_openings 0 parts labels sources) now before after
+        (evaluator_openings_count 0 parts labels sources long_l long_s) kept was)

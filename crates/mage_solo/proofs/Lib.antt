@@ -11,7 +11,9 @@ mod Streaming
 mod Rooms
 mod Decoded
 mod Drawing
+mod Sticking
 mod Evaluation
+mod Clean
 mod Dealt
 mod Concluding
 mod Fronting

@@ -1,11 +1,11 @@
 -- A run that evaluates.
-use Rattle.std.specs.Prelude.{◌≡◌, ◌≤◌, ◌+◌, ◌++◌, ℕ, true, false, List, [], ◌∷◌, length, drop, map, Vec, IfSome, IsTrue, Option, None, Some, slice_get, slice_index_or, unwrap_or}
+use Rattle.std.specs.Prelude.{◌≡◌, ◌≤◌, ◌+◌, ◌++◌, ◌⊎◌, ℕ, true, false, List, [], ◌∷◌, length, drop, map, Vec, IfSome, IsTrue, Option, None, Some, slice_get, slice_index_or, unwrap_or}
 use Rattle.std.specs.Global.{Global}
 use Rattle.mage_base.specs.Faults.{Rose}
 use Rattle.mage_base.specs.Source.{SourceTold}
 use Rattle.mage_base.specs.Store.{StoreTold}
 use Rattle.mage_driver.specs.declared.standing.Standing.TheVariants as standing
-use Rattle.mage_driver.specs.Calls.{Told, Call, Finish, call_of, led_to}
+use Rattle.mage_driver.specs.Calls.{Told}
 use Rattle.mage_instr.specs.declared.fault.DriverFault.{DriverFault}
 use Rattle.mage_instr.specs.declared.fault.DriverFault.TheVariants as broken
 use Rattle.mage_instr.specs.declared.instr.Program.{Program}
@@ -13,7 +13,7 @@ use Rattle.mage_label.specs.declared.labels.Label.{Label}
 use Rattle.mage_linked.specs.declared.emitted.Emitted.{Emitted}
 use Rattle.mage_linked.specs.Emission.{emission_of}
 use Rattle.mage_linked.specs.Workers.{list_at, below}
-use Rattle.mage_relations.specs.Unplaced.{starting_in, run_of, calls_of}
+use Rattle.mage_relations.specs.Unplaced.{starting_in, run_of}
 use Rattle.mage_verify.specs.Parts.{WorkerPart}
 use Rattle.mage_core.specs.declared.fault.RunFault.{RunFault}
 use Rattle.mage_core.specs.declared.fault.RunFault.TheVariants as fault
@@ -106,31 +106,27 @@ stream_at sources worker = unwrap_or (source_at sources worker).left []
 abbrev pub rooms_of : Program → (worker : ℕ) → ℕ
 rooms_of program worker = outputs_in (list_at program.workers worker)
 
--- the first of two faults
-abbrev pub sooner : Option DriverFault → Option DriverFault → Option DriverFault
-sooner (Some f) later = Some f
-sooner None later = later
-
--- the first fault that is due in some calls
-abbrev pub first_due : List (Call Evaluating Label) → Option DriverFault
-first_due [] = None
-first_due (call ∷ calls) = sooner (eval_rules.due call.state (led_to eval_rules call)) (first_due calls)
-
 module _ (program : Program) (labels : List (List Label)) (sources : List SourceTold) where
   -- the evaluators of a program's workers, each with room for its outputs
   abbrev pub evaluators_of : ℕ → Evaluating
   evaluators_of = evaluators (list_at labels) (rooms_of program) (source_at sources)
 
-  -- all calls of a worker's evaluator, where the program's instructions run in the order of their emission
-  abbrev pub evaluator_calls : (worker : ℕ) → List (Call Evaluating Label)
-  evaluator_calls worker =
-      calls_of eval_rules worker (starting_in evaluators_of) (emission_of program)
-      ++ call_of eval_rules ((run_of eval_rules (starting_in evaluators_of) (emission_of program)).states worker) Finish ∷ []
+  -- a worker's evaluator behind its last instruction, where the program's instructions run in the order of their emission
+  abbrev pub evaluator_at_end : (worker : ℕ) → Evaluating
+  evaluator_at_end worker = (run_of eval_rules (starting_in evaluators_of) (emission_of program)).states worker
 
   -- What is wrong with the stream of a worker, if anything is: it ends before what is due of it is whole, a colour is neither 0
   -- nor 1, or something is left at the end; the first of these, at its place.
   abbrev pub stream_fault : (worker : ℕ) → Option DriverFault
-  stream_fault worker = first_due (evaluator_calls worker)
+  stream_fault worker = (eval_rules.finish (evaluator_at_end worker)).wrong
+
+  -- A driver that stopped did so at its source, which isn't steady, or for what is wrong with its stream.
+  abbrev pub IsForItsStream : RunFault → Type 0
+  IsForItsStream (fault.Store worker) = Unit {0}
+  IsForItsStream (fault.Driver worker f) =
+      ((f ≡ broken.Source) × ((source_at sources worker).steady ≡ false)) ⊎ (stream_fault worker ≡ Some f)
+  IsForItsStream (fault.Damaged worker damage) = Unit {0}
+  IsForItsStream fault.Memory = Unit {0}
 
   -- what each worker puts out: the values that are decoded from its labels and its stream
   abbrev pub decoded_by : (count : ℕ) → List (List ℕ)

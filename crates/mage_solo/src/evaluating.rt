@@ -16,7 +16,7 @@ ghost use Rattle.mage_core.specs.declared.fault.RunFault.TheVariants as fault;
 ghost use Rattle.mage_core.specs.Made.{HasStoreOf, shelves};
 ghost use Rattle.mage_solo.specs.Stores.{told_by, AllSuffice, AreMoved, HaveGrown, WereDeceived};
 ghost use Rattle.mage_solo.specs.Plain.{lists_of};
-ghost use Rattle.mage_solo.specs.Evaluating.{AllTellLeft, AllSteady, AreDealt, AreStreams, NoneFailed, EvalStops, IsOfNoStore, IsOfAStream, stream_fault, decoded_by, labels_in, evaluator_opening, outputs_of, GivesBack, AreMadeFor};
+ghost use Rattle.mage_solo.specs.Evaluating.{AllTellLeft, AllSteady, AreDealt, AreStreams, NoneFailed, EvalStops, IsOfNoStore, IsOfAStream, IsForItsStream, stream_fault, decoded_by, labels_in, evaluator_opening, outputs_of, GivesBack, AreMadeFor};
 
 use crate::outputs::{count_outputs, unless_stopped};
 use mage_base::{Memory, Source, Store};
@@ -152,10 +152,12 @@ fn turned<I: Source>(drivers: Vec<EvalDriver<I>>) -> Vec<EvalDriver<I>>
 /// stands at its top. So where all stores suffice and the sources are steady, only a stream that isn't what is due stops a run.
 ///
 /// Where the memory program carries a program that can run, every source tells what it has left, and the labels are whole, what is
-/// answered is decoded from the labels and from what the sources had left, and then no stream had anything wrong; unless a store answered a
-/// read with other bytes of the same digest. Where the labels and the streams are those of one seed and of inputs on which the program
-/// can run, that is what the program means on numbers. What sources have left afterwards isn't said, nor which of a stream's faults stops a
-/// run, nor how long it takes.
+/// answered is decoded from the labels and from what the sources had left, and then nothing was wrong with any stream; and a driver
+/// stops at its source, where that isn't steady, or else for what is wrong first with its stream, over the whole program. So where
+/// nothing is, the sources are steady and all stores suffice, only want of memory comes. Where the labels and the streams are those of
+/// one seed and of inputs on which the program can run, nothing is, and what is answered is what the program means on numbers. All
+/// that unless a store answered a read with other bytes of the same digest. What sources have left afterwards isn't said, nor how long
+/// it takes.
 pub fn run_evaluating<S: Store, I: Source>(
     alloc: Global,
     parts: Vec<Part>,
@@ -201,6 +203,21 @@ pub fn run_evaluating<S: Store, I: Source>(
         (labels_in labels.items) (map I.tells sources.items) w ≡ None))
         ⊎ WereDeceived parts.items
         (told_by S.tells stores.items) (told_by S.tells result.stores.items)) }
+    ensures wrong { (plan : MemProgram) (count : ℕ) (emitted : List Emitted)
+        → IsMemProgram plan → parts.items ≡ parts_of plan → Carries count emitted plan
+        → CanRun count emitted → AllTellLeft (map I.tells sources.items)
+        → ((w : ℕ) → AreWhole (list_at (labels_in labels.items) w))
+        → IfErr result.outcome (λ f. IsForItsStream (program_of count emitted)
+        (labels_in labels.items) (map I.tells sources.items) f ⊎ WereDeceived parts.items
+        (told_by S.tells stores.items) (told_by S.tells result.stores.items)) }
+    ensures runs { (plan : MemProgram) (count : ℕ) (emitted : List Emitted)
+        → IsMemProgram plan → parts.items ≡ parts_of plan → Carries count emitted plan
+        → CanRun count emitted → AllTellLeft (map I.tells sources.items)
+        → ((w : ℕ) → AreWhole (list_at (labels_in labels.items) w))
+        → AllSuffice parts.items (told_by S.tells stores.items)
+        → AllSteady (map I.tells sources.items) → ((w : ℕ) → w < count
+        → stream_fault (program_of count emitted) (labels_in labels.items)
+        (map I.tells sources.items) w ≡ None) → IfErr result.outcome (λ f. f ≡ fault.Memory) }
     ensures meant { (plan : MemProgram) (count : ℕ) (emitted : List Emitted) (given : Given)
         (seed : List ℕ) → IsMemProgram plan → parts.items ≡ parts_of plan
         → Carries count emitted plan → CanRunOn count emitted given
@@ -209,6 +226,13 @@ pub fn run_evaluating<S: Store, I: Source>(
         → IfOk result.outcome (λ outputs. (lists_of outputs.items
         ≡ means_of (program_of count emitted) given) ⊎ WereDeceived parts.items
         (told_by S.tells stores.items) (told_by S.tells result.stores.items)) }
+    ensures succeeds { (plan : MemProgram) (count : ℕ) (emitted : List Emitted) (given : Given)
+        (seed : List ℕ) → IsMemProgram plan → parts.items ≡ parts_of plan
+        → Carries count emitted plan → CanRunOn count emitted given
+        → AreDealt count emitted given seed (labels_in labels.items)
+        → AreStreams count emitted given seed (map I.tells sources.items)
+        → AllSuffice parts.items (told_by S.tells stores.items)
+        → AllSteady (map I.tells sources.items) → IfErr result.outcome (λ f. f ≡ fault.Memory) }
 {
     let mut sources = sources;
     let Ok((mut drivers, mut outputs)) = room(alloc, parts.len()) else {
