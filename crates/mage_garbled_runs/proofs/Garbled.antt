@@ -63,7 +63,7 @@ whole_inputs seed worker first zero = tt
 whole_inputs seed worker first (suc count) =
     (IsWhole-digest_label _, whole_inputs seed worker (number_after first 1) count)
 
-garbler_gives_wires : CallsGiveWires garble_rules (λ s. true)
+pub garbler_gives_wires : CallsGiveWires garble_rules (λ s. true)
 garbler_gives_wires = record {
   constant = λ s bit h. whole_constant (offset_in s.garbler) bit (IsWhole-offset_of s.garbler.seed);
   xor = IsWhole-xor;

@@ -17,3 +17,4 @@ mod Clean
 mod Dealt
 mod Concluding
 mod Fronting
+mod Roomy

@@ -27,6 +27,15 @@ pub record Sunk (before after : List SinkTold) (worker : ℕ) : Type 0 where
 abbrev pub AllTellTaken : List SinkTold → Type 0
 AllTellTaken sinks = (w : ℕ) → IfSome (slice_get sinks w) (λ sink. IsTrue (tells_taken sink))
 
+-- A sink is steady and has room for these bytes.
+pub record HasRoomFor (sink : SinkTold) (bytes : List ℕ) : Type 0 where
+  pub steady : IsTrue sink.steady
+  pub room : length bytes ≤ sink.room
+
+-- each sink has room for the stream of its worker
+abbrev pub AllHaveRoom : List SinkTold → (stream : ℕ → List ℕ) → Type 0
+AllHaveRoom sinks stream = (w : ℕ) → IfSome (slice_get sinks w) (λ sink. HasRoomFor sink (stream w))
+
 -- A sink took these bytes more, and never failed.
 pub record TookAll (old new : SinkTold) (bytes : List ℕ) : Type 0 where
   pub taken : new.taken ≡ option_map (λ earlier. earlier ++ bytes) old.taken

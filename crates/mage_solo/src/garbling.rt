@@ -14,7 +14,7 @@ ghost use Rattle.mage_core.specs.Made.{HasStoreOf, shelves};
 ghost use Rattle.mage_solo.specs.Stores.{told_by, AllSuffice, AreMoved, HaveGrown, WereDeceived};
 ghost use Rattle.mage_solo.specs.Fronts.{AllTookFronts};
 ghost use Rattle.mage_solo.specs.Plain.{lists_of};
-ghost use Rattle.mage_solo.specs.Garbling.{AllTellTaken, AllTook, NoneFailed, NoneTook, TellStill, GarbleStops, IsOfNoStore, HandsBack, AreMadeOf};
+ghost use Rattle.mage_solo.specs.Garbling.{AllHaveRoom, AllTellTaken, AllTook, NoneFailed, NoneTook, TellStill, GarbleStops, IsOfNoStore, HandsBack, AreMadeOf};
 
 use mage_base::{Memory, Sink, Store};
 use mage_core::{RunFault, solo};
@@ -97,7 +97,8 @@ fn turned<K: Sink>(drivers: Vec<GarbleDriver<K>>) -> Vec<GarbleDriver<K>>
 ///
 /// Where the memory program carries a program that can run, and nothing stopped the run, each sink that tells what it takes took the
 /// worker's garbled stream behind what it had, unless a store answered a read with other bytes of the same digest; and with a fault
-/// but `Memory` each took a front of it. Nothing is said of how long it takes, nor of secrecy.
+/// but `Memory` each took a front of it. Where all stores suffice, and all sinks are steady with room for their streams, only `Memory`
+/// comes. Nothing is said of how long it takes, nor of secrecy.
 pub fn run_garbling<S: Store, K: Sink>(
     alloc: Global,
     parts: Vec<Part>,
@@ -146,6 +147,13 @@ pub fn run_garbling<S: Store, K: Sink>(
         (garbled_stream (program_of count emitted) seed (list_at (lists_of garbler.items)))
         ⊎ WereDeceived parts.items
         (told_by S.tells stores.items) (told_by S.tells result.stores.items) }
+    ensures roomy { (plan : MemProgram) (count : ℕ) (emitted : List Emitted)
+        → IsMemProgram plan → parts.items ≡ parts_of plan → Carries count emitted plan
+        → CanRun count emitted → AllTellTaken (map K.tells sinks.items)
+        → AllSuffice parts.items (told_by S.tells stores.items)
+        → AllHaveRoom (map K.tells sinks.items)
+        (garbled_stream (program_of count emitted) seed (list_at (lists_of garbler.items)))
+        → IfSome result.fault (λ f. f ≡ fault.Memory) }
 {
     let mut sinks = sinks;
     let Ok(mut drivers) = Vec::with_capacity(alloc, parts.len()) else {

@@ -17,6 +17,7 @@ use Rattle.mage_solo.proofs.Lists.{Ones, mapped_ones}
 use Rattle.mage_solo.proofs.Workers.{ones_given, grown_ones, moved_ones, suffices_ones}
 use Rattle.mage_solo.proofs.Streaming.{all_run, garbler_openings_count, closed_count, made_all, none_made, same_map, few_parts, closed_end, none_end, sinks_count, ok_all, garble_stops, garble_spared, told_end, tell_end, tell_none, quiet_end, streams_end}
 use Rattle.mage_solo.proofs.Fronting.{fronts_end}
+use Rattle.mage_solo.proofs.Roomy.{roomy_end}
 use Rattle.mage_solo.proofs.garbling.run_garbling.Goals as goal
 
 pub make_all-requires-clause-few : goal.make_all-requires-clause-few
@@ -381,3 +382,37 @@ returns-then-is_err-clause-fronts g c plan count emitted fine same carried can t
 
 pub returns-in_default-clause-fronts : goal.returns-in_default-clause-fronts
 returns-in_default-clause-fronts g c plan count emitted fine same carried can tell not = absurd (not refl)
+
+pub returns-clause-roomy : goal.returns-clause-roomy
+returns-clause-roomy g c plan count emitted fine same carried can tell all room =
+    let parts = c.args.parts.items in
+    let garbler = lists_of c.args.garbler.items in
+    let sinks = map g.K.Sink.tells c.args.sinks.items in
+    let long_g : length garbler ≡ length parts = length-map c.args.garbler.items (λ v. v.items) ∙ c.requires.garbler in
+    let long_s : length sinks ≡ length parts = length-map c.args.sinks.items g.K.Sink.tells ∙ c.requires.sinks in
+    let together : length garbler ≡ length sinks = omega (arith, long_g, long_s) in
+    let none : c.make_all.new.sinks.items ≡ [] = ok_all _ c.make_all.result c.make_all.ensures.all c.is_err.ensures.value c.if-is_err.false in
+    let made : c.turned.result.items ≡ garbler_openings c.args.seed 0 garbler sinks =
+    c.turned.ensures ∙ made_all g.K.Sink.tells c.args.seed c.args.garbler.items c.args.sinks.items c.make_all.new.sinks.items (reverse c.make_all.new.drivers.items)
+    c.make_all.ensures.made none in
+    let many : length c.turned.result.items ≡ length parts = ap length made ∙ garbler_openings_count c.args.seed 0 garbler sinks together ∙ long_s in
+    let ended = c.solo-ended.result in
+    let drivers = map (λ (d : Told Garbling). d) c.turned.result.items in
+    let now = map (λ (d : Told Garbling). d) ended.drivers.items in
+    let sinks' = map g.K.Sink.tells c.close_all-2.new.sinks.items in
+    let opened : drivers ≡ garbler_openings c.args.seed 0 garbler sinks = same_map c.turned.result.items ∙ made in
+    let counted : length drivers ≡ length parts = ap length (same_map c.turned.result.items) ∙ many in
+    let kept : length now ≡ length parts = ap length (same_map ended.drivers.items) ∙ c.solo-ended.ensures.drivers ∙ many in
+    let closed : AreClosed now sinks' = closed_end g.K.Sink.tells c.turned-drivers.result.items ended.drivers.items c.make_all.new.sinks.items
+    c.close_all-2.new.sinks.items none c.turned-drivers.ensures c.close_all-2.ensures.back in
+    let before = told_by g.S.Store.tells c.args.stores.items in
+    let after = told_by g.S.Store.tells ended.stores.items in
+    let ones = ones_given 16 g.S.Store.tells parts c.args.stores.items c.requires.stores c.requires.suits in
+    let b : Ones before (length parts) = mapped_ones g.S.Store.tells (shelves c.args.stores.items) (length parts) ones in
+    let a : Ones after (length parts) = mapped_ones g.S.Store.tells (shelves ended.stores.items) (length parts) (c.solo-ended.ensures.stores ∙ ones) in
+    let spared = garble_spared parts c.args.seed garbler sinks drivers now sinks' before after opened long_g long_s counted kept closed b a all ended.fault
+    c.solo-ended.ensures.comes c.solo-ended.ensures.untold (c.solo-ended.ensures.steady (suffices_ones parts drivers now before after counted kept b a all)).0 in
+    roomy_end parts c.args.seed garbler sinks drivers now sinks' before after opened long_g long_s counted kept closed b a count emitted plan fine same
+    (subst (λ (ps : List WorkerPart). fault_in ps ≡ None) same c.requires.verified.none) carried can all room ended.fault spared c.solo-ended.ensures.comes
+    (λ states are not_memory. c.solo-ended.ensures.begins plan states fine same are
+    (told_end parts c.args.seed garbler sinks drivers now sinks' before after opened long_g long_s kept closed b a tell) not_memory)
