@@ -34,8 +34,8 @@ pub struct Pair {
     pub sinks: Sinks,
 }
 
-// A store of one page of 64 wires, alone on its shelf.
-fn shelf(alloc: Global) -> Result<Vec<MemStore>, Memory>
+/// A store of one page of 64 wires, alone on its shelf.
+pub(crate) fn shelf(alloc: Global) -> Result<Vec<MemStore>, Memory>
     ensures { IfOk result (λ shelf. (length shelf.items ≡ 1)
         × All (λ store. store.page_bytes ≡ 1024) shelf.items) }
 {

@@ -46,7 +46,7 @@ const STREAM: [u8; 32] = [
 ];
 
 // The sum of a value of each party, put out.
-const SUM: [Directive; 5] = [
+pub(crate) const SUM: [Directive; 5] = [
     page!(0 0),
     eight!(Input 0, at!(0 0), at!(0 0), at!(0 0)),
     eight!(Input 1, at!(0 8), at!(0 0), at!(0 0)),
@@ -66,7 +66,7 @@ fn the_stream_of_a_sum(rt: HostRuntime) -> Result<(), Fail> {
 
 // Two values of the garbler and one of the evaluator between them: the third is put out, and then the sum of the first two. The
 // second stands on a page of its own, which is written and read again.
-const SWAPPED: [Directive; 13] = [
+pub(crate) const SWAPPED: [Directive; 13] = [
     page!(0 0),
     eight!(Input 0, at!(0 0), at!(0 0), at!(0 0)),
     page!(1 1),

@@ -1,6 +1,9 @@
-//! Tests of runs on one thread: small memory programs, in plain and garbled, over stores and sinks in memory.
+//! Tests of runs on one thread: small memory programs, in plain, garbled and evaluated, over stores, sinks and sources in memory.
 #![tactic(auto)]
 
+mod evaluated;
+#[cfg(test)]
+mod evaluated_tests;
 mod garbled;
 #[cfg(test)]
 mod garbled_tests;
@@ -10,6 +13,7 @@ mod programs;
 mod tests;
 mod two;
 
+pub use evaluated::{Decoded, evaluate_alone};
 pub use garbled::{Lone, Pair, Sinks, garble_alone, garble_pair};
 pub use one::{Alone, run_alone};
 pub use two::{Given, Worker, run_pair};

@@ -91,7 +91,7 @@ const ADDER: [Directive; 7] = [
 ];
 
 // What a run put out, or nothing where it was stopped.
-fn outputs_of(outcome: &Result<Vec<u128>, RunFault>) -> &[u128] {
+pub(crate) fn outputs_of(outcome: &Result<Vec<u128>, RunFault>) -> &[u128] {
     match outcome {
         Ok(outputs) => outputs.as_slice(),
         Err(_) => &[],
@@ -99,7 +99,7 @@ fn outputs_of(outcome: &Result<Vec<u128>, RunFault>) -> &[u128] {
 }
 
 // What stopped a run.
-fn fault_of<T>(outcome: &Result<T, RunFault>) -> Option<RunFault> {
+pub(crate) fn fault_of<T>(outcome: &Result<T, RunFault>) -> Option<RunFault> {
     match outcome {
         Ok(_) => None,
         Err(fault) => Some(*fault),
