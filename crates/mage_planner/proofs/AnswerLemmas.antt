@@ -28,10 +28,12 @@ answers steady outcome before after (refusal.InputLine party line) h =
     (refusal.InputLine party line, h)
 answers steady outcome before after (refusal.InputTooLong party) h = (refusal.InputTooLong party, h)
 answers steady outcome before after refusal.InputSeed h = (refusal.InputSeed, h)
+answers steady outcome before after (refusal.InputLabels worker) h = (refusal.InputLabels worker, h)
 answers steady outcome before after (refusal.MemoryProgram fault) h = (refusal.MemoryProgram fault, h)
 answers steady outcome before after (refusal.CheckNo worker directive) h = (refusal.CheckNo worker directive, h)
 answers steady outcome before after (refusal.Store worker) h = (refusal.Store worker, h)
 answers steady outcome before after (refusal.Damaged worker damage) h = (refusal.Damaged worker damage, h)
+answers steady outcome before after (refusal.Stream worker fault) h = (refusal.Stream worker fault, h)
 answers steady outcome before after refusal.Desk h = (refusal.Desk, h)
 answers steady outcome before after refusal.Memory h = (refusal.Memory, h)
 
@@ -48,15 +50,15 @@ stops outcome refusal.Desk before after other leaves = absurd (other refl)
 stops outcome refusal.Memory before after other leaves = leaves
 stops outcome (refusal.Store worker) before after other breaks = record {
   shelves = breaks.shelves;
-  between = after;
+  between = breaks.between;
   returns = breaks.returns;
-  ceases = record { files = others_stay (files_of outcome) after.files; rest = refl };
+  ceases = breaks.ceases;
 }
 stops outcome (refusal.Damaged worker damage) before after other damages = record {
   shelves = damages.shelves;
-  between = after;
+  between = damages.between;
   returns = damages.returns;
-  ceases = record { files = others_stay (files_of outcome) after.files; rest = refl };
+  ceases = damages.ceases;
 }
 stops outcome why before after other leaves = rw leaves (record {
   shelves = [];

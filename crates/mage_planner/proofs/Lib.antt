@@ -9,3 +9,6 @@ mod CarriedLemmas
 mod SoloLemmas
 mod RunLemmas
 mod RanLemmas
+mod GeneratedLemmas
+mod GeneratingLemmas
+mod GeneratedFiles

@@ -1,5 +1,5 @@
 -- What is done of what a command comes to.
-use Rattle.std.proofs.Common.{◌≡◌, ◌≢◌, ◌≤◌, inl, ℕ, List, [], length, Bool, Option, Some, None, Result, Ok, Err, refl, sym, ap, ap₂, subst, ◌∙◌, ◌∷◌, ◌++◌, take, IsTrue, arith}
+use Rattle.std.proofs.Common.{◌≡◌, ◌≢◌, ◌≤◌, inl, ℕ, List, [], length, map, Bool, Option, Some, None, Result, Ok, Err, refl, sym, ap, ap₂, subst, ◌∙◌, ◌∷◌, ◌++◌, take, IsTrue, arith}
 use Rattle.std.proofs.Math.Path.{fun_ext}
 use Rattle.std.specs.Option.{IfSome}
 use Rattle.mage_base.specs.Desk.{DeskTold, Files, Returned, StoreId}
@@ -7,21 +7,26 @@ use Rattle.mage_base.specs.Store.{StoreTold}
 use Rattle.mage_source_runs.specs.Moves.{Moves}
 use Rattle.mage_planner.specs.declared.refusal.Refusal.{Refusal}
 use Rattle.mage_planner.specs.declared.refusal.Refusal.TheVariants as refusal
-use Rattle.mage_planner.specs.Outcome.{Done, NewFile}
+use Rattle.mage_planner.specs.Outcome.{Done, NewFile, says_and_writes}
 use Rattle.mage_planner.specs.Steps.{IsNoDeskFault, StepCounted, RefusalCounted, Refuses}
 use Rattle.mage_planner.specs.Stores.{GivesBack, HaveMoved}
-use Rattle.mage_planner.specs.Answer.{Works, HasRoom, TellsStores, OthersStay, files_of, text_of, with_files}
+use Rattle.mage_planner.specs.Answer.{Works, Ceases, HasRoom, TellsStores, OthersStay, files_of, text_of, with_files}
 use Rattle.mage_planner.specs.Warned.{Grows}
 use Rattle.mage_planner.specs.Writing.{Finished, Performs, Writes}
 use Rattle.mage_planner.proofs.WritingLemmas.{one_stays, none_stays, grows_front}
-use Rattle.mage_planner.proofs.WordsLemmas.{IsOfStore}
+use Rattle.mage_planner.proofs.WordsLemmas.{IsBare, IsOfStore}
 
 -- where nothing is written all files stay
-all_stay : (before after : Option Files) → OthersStay [] before after → after ≡ before
+pub all_stay : (before after : Option Files) → OthersStay [] before after → after ≡ before
 all_stay None after stay = stay
 all_stay (Some old) None stay = absurd stay
 all_stay (Some old) (Some new) stay =
     ap (λ (files : Files). Some files) (fun_ext (λ name. stay name (λ k d less. absurd (omega (arith, less)))))
+
+-- what has no name isn't there
+pub unnamed : (files : List NewFile) → map (λ (file : NewFile). file.name) files ≡ [] → files ≡ []
+unnamed [] none = refl
+unnamed (file ∷ files) none = absurd (cc)
 
 -- ---- frames
 
@@ -87,9 +92,17 @@ module _ (done : Done) (before after : DeskTold) where
   counts (Err refusal.Desk) fails =
       let same = back_faults fails.shelves before fails.between fails.returns.given in (rw same at fails.breaks.rises, rw same at fails.breaks.rose)
   counts (Err refusal.Memory) stops = ap (λ (desk : DeskTold). desk.faults) stops.ceases.rest ∙ back_faults stops.shelves before stops.between stops.returns.given
-  counts (Err (refusal.Store worker)) breaks = back_faults breaks.1.shelves before after breaks.1.returns.given
-  counts (Err (refusal.Damaged worker damage)) damages = back_faults damages.1.shelves before after damages.1.returns.given
+  counts (Err (refusal.Store worker)) breaks =
+      ap (λ (desk : DeskTold). desk.faults) breaks.1.ceases.rest ∙ back_faults breaks.1.shelves before breaks.1.between breaks.1.returns.given
+  counts (Err (refusal.Damaged worker damage)) damages =
+      ap (λ (desk : DeskTold). desk.faults) damages.1.ceases.rest ∙ back_faults damages.1.shelves before damages.1.between damages.1.returns.given
   counts (Err other) none = absurd none
+
+  -- stores are back, and then files were written or not
+  ceased : (shelves : List (List StoreTold)) (between : DeskTold) (written : List NewFile) → GivesBack shelves before between → Ceases written between after → Frame before after
+  ceased shelves between written given ceases =
+      joined_frames before between after (back_frame shelves before between given)
+      (framed between after after.files between.said between.faults between.room between.lent between.returned ceases.rest)
 
   pub changes : (r : Result (Unit {0}) Refusal) → Performs done r before after → Frame before after
   changes (Ok x) does =
@@ -98,26 +111,34 @@ module _ (done : Done) (before after : DeskTold) where
   changes (Err refusal.Desk) fails =
       joined_frames before fails.between after (back_frame fails.shelves before fails.between fails.returns.given)
       (framed fails.between after after.files after.said after.faults after.room fails.between.lent fails.between.returned fails.breaks.rest)
-  changes (Err refusal.Memory) stops =
-      joined_frames before stops.between after (back_frame stops.shelves before stops.between stops.returns.given)
-      (framed stops.between after after.files stops.between.said stops.between.faults stops.between.room stops.between.lent stops.between.returned stops.ceases.rest)
-  changes (Err (refusal.Store worker)) breaks = back_frame breaks.1.shelves before after breaks.1.returns.given
-  changes (Err (refusal.Damaged worker damage)) damages = back_frame damages.1.shelves before after damages.1.returns.given
+  changes (Err refusal.Memory) stops = ceased stops.shelves stops.between (files_of (Ok done)) stops.returns.given stops.ceases
+  changes (Err (refusal.Store worker)) breaks = ceased breaks.1.shelves breaks.1.between (files_of (Ok done)) breaks.1.returns.given breaks.1.ceases
+  changes (Err (refusal.Damaged worker damage)) damages =
+      ceased damages.1.shelves damages.1.between (files_of (Ok done)) damages.1.returns.given damages.1.ceases
   changes (Err other) none = absurd none
 
   -- a command without files leaves them
-  pub leaves_files : (r : Result (Unit {0}) Refusal) → Performs done r before after → done.files ≡ [] → after.files ≡ before.files
-  leaves_files (Ok x) does none =
-      ap (λ (desk : DeskTold). desk.files) does.finishes.rest ∙ ap (with_files does.between.files) none ∙ back_files does.shelves before does.between does.given
-  leaves_files (Err refusal.Desk) fails none =
-      all_stay fails.between.files after.files (subst (λ (written : List NewFile). OthersStay written fails.between.files after.files) none fails.breaks.files)
-      ∙ back_files fails.shelves before fails.between fails.returns.given
-  leaves_files (Err refusal.Memory) stops none =
-      all_stay stops.between.files after.files (subst (λ (written : List NewFile). OthersStay written stops.between.files after.files) none stops.ceases.files)
-      ∙ back_files stops.shelves before stops.between stops.returns.given
-  leaves_files (Err (refusal.Store worker)) breaks none = back_files breaks.1.shelves before after breaks.1.returns.given
-  leaves_files (Err (refusal.Damaged worker damage)) damages none = back_files damages.1.shelves before after damages.1.returns.given
-  leaves_files (Err other) performs none = absurd performs
+  none_of : IsBare done → files_of (Ok done) ≡ []
+  none_of bare = ap₂ (λ (streams files : List NewFile). streams ++ files) bare.1 bare.0
+
+  -- where none is written, others stay: all of them
+  none_written : (shelves : List (List StoreTold)) (between : DeskTold) → GivesBack shelves before between → OthersStay (files_of (Ok done)) between.files after.files
+      → IsBare done → after.files ≡ before.files
+  none_written shelves between given stay bare =
+      all_stay between.files after.files (subst (λ (written : List NewFile). OthersStay written between.files after.files) (none_of bare) stay)
+      ∙ back_files shelves before between given
+
+  pub leaves_files : (r : Result (Unit {0}) Refusal) → Performs done r before after → IsBare done → after.files ≡ before.files
+  leaves_files (Ok x) does bare =
+      let filled = unnamed does.filled (does.named ∙ ap (map (λ (file : NewFile). file.name)) bare.1) in
+      ap (λ (desk : DeskTold). desk.files) does.finishes.rest
+      ∙ ap₂ (λ (streams files : List NewFile). with_files does.between.files (streams ++ files)) filled bare.0 ∙ back_files does.shelves before does.between does.given
+  leaves_files (Err refusal.Desk) fails bare = none_written fails.shelves fails.between fails.returns.given fails.breaks.files bare
+  leaves_files (Err refusal.Memory) stops bare = none_written stops.shelves stops.between stops.returns.given stops.ceases.files bare
+  leaves_files (Err (refusal.Store worker)) breaks bare = none_written breaks.1.shelves breaks.1.between breaks.1.returns.given breaks.1.ceases.files bare
+  leaves_files (Err (refusal.Damaged worker damage)) damages bare =
+      none_written damages.1.shelves damages.1.between damages.1.returns.given damages.1.ceases.files bare
+  leaves_files (Err other) performs bare = absurd performs
 
   -- a command that asks for no store leaves what came of others
   pub leaves_stores : (r : Result (Unit {0}) Refusal) → Performs done r before after → done.moves ≡ [] → (after.returned ≡ before.returned) × (after.lent ≡ before.lent)
@@ -173,7 +194,7 @@ module _ (before after : DeskTold) (Is : Done → Type 0) where
 
 -- what is done without a store
 pub without_stores : (text : List ℕ) (files : List NewFile) (r : Result (Unit {0}) Refusal) (before after : DeskTold) →
-    Finished text files r before after → Performs (record { said = text; files = files; moves = [] }) r before after
+    Finished text files r before after → Performs (says_and_writes text files) r before after
 without_stores text files (Ok x) before after finishes = record {
   shelves = [];
   moved = tt;
@@ -181,6 +202,9 @@ without_stores text files (Ok x) before after finishes = record {
   given = none_back before;
   text = text;
   right = inl refl;
+  filled = [];
+  right_streams = inl refl;
+  named = refl;
   finishes = finishes;
 }
 without_stores text files (Err refusal.Desk) before after breaks = record {
@@ -200,10 +224,10 @@ without_stores text files (Err refusal.Memory) before after ceases = record {
 without_stores text files (Err other) before after none = absurd none
 
 -- the same of work that does this
-pub work_without_stores : (done x : Done) (r : Result (Unit {0}) Refusal) (before after : DeskTold) → x.moves ≡ [] → done ≡ x → Finished x.said x.files r before after → Performs done r before after
-work_without_stores done x r before after none same finished =
+pub work_without_stores : (done x : Done) (r : Result (Unit {0}) Refusal) (before after : DeskTold) → x.moves ≡ [] → x.streams ≡ [] → done ≡ x → Finished x.said x.files r before after → Performs done r before after
+work_without_stores done x r before after none none_too same finished =
     subst (λ (d : Done). Performs d r before after)
-    (ap (λ (moves : List Moves). record { said = x.said; files = x.files; moves = moves }) (sym none) ∙ sym same)
+    (ap₂ (λ (moves : List Moves) (streams : List NewFile). record { said = x.said; files = x.files; streams = streams; moves = moves }) (sym none) (sym none_too) ∙ sym same)
     (without_stores x.said x.files r before after finished)
 
 -- the desk that was read stays
@@ -276,8 +300,9 @@ module _ (file : NewFile) (text : List ℕ) where
       }
   written_said (Err other) before mid after wrote none = absurd none
 
-  -- the file isn't written
-  pub unwritten : (why : Refusal) (before after : DeskTold) → Writes {T = Unit {0}} (file ∷ []) (Err why) before after → Finished {T = Unit {0}} text (file ∷ []) (Err why) before after
+-- files that aren't written, or not all of them
+module _ (files : List NewFile) (text : List ℕ) where
+  pub unwritten : (why : Refusal) (before after : DeskTold) → Writes {T = Unit {0}} files (Err why) before after → Finished {T = Unit {0}} text files (Err why) before after
   unwritten refusal.Desk before after wrote = record {
     said = subst (λ (s : Option (List ℕ)). Grows before.said s (λ old new. (n : ℕ) × (new ≡ old ++ take n text))) (sym (ap (λ (desk : DeskTold). desk.said) wrote.rest)) (grows_front before.said text);
     files = wrote.files;

@@ -1,5 +1,7 @@
 -- Of the commands on memory programs: a refusal of a step is one of the whole work.
-use Rattle.std.proofs.Common.{◌≡◌, ◌≤◌, ◌*◌, ℕ, List, [], ◌∷◌, true, length, Result, Ok, Err, refl, ap, ap₂, ◌∙◌, arith}
+use Rattle.std.proofs.Common.{◌≡◌, ◌≤◌, ◌*◌, ℕ, List, [], ◌∷◌, Bool, true, length, Option, Some, None, Result, Ok, Err, refl, ap, ap₂, ◌∙◌, arith}
+use Rattle.std.specs.Option.{IfSome}
+use Rattle.mage_base.specs.Desk.{Files}
 use Rattle.mage_chains.specs.Chains.{◌>>=◌}
 use Rattle.mage_accepted.specs.Accepting.{IsAccepted, directives_in}
 use Rattle.mage_carry.specs.declared.carry.Carry.{Carry}
@@ -10,10 +12,11 @@ use Rattle.mage_instr.specs.declared.directive.MemProgram.{MemProgram}
 use Rattle.mage_pipe.specs.declared.loaded.Loaded.{Loaded}
 use Rattle.mage_pipe.specs.declared.stats.WorkerStats.{WorkerStats}
 use Rattle.mage_pipe.specs.MemoryProgram.{memory_program_of}
-use Rattle.mage_words.specs.Words.{PlanRequest, CheckRequest, UpgradeRequest}
+use Rattle.mage_lex.specs.Limits.{MOST_BYTES}
+use Rattle.mage_words.specs.Words.{PlanRequest, Check, CheckRequest, UpgradeRequest}
 use Rattle.mage_planner.specs.declared.refusal.Refusal.{Refusal}
 use Rattle.mage_planner.specs.declared.refusal.Refusal.TheVariants as refusal
-use Rattle.mage_planner.specs.Outcome.{File, Absent, Found, nothing_found, Done, says, plans, source_of, costs_of, or_limits, program_of, carry_of, carried_or, first_program_of, renamed_of, upgrades, plan_outcome, check_outcome, upgrade_outcome}
+use Rattle.mage_planner.specs.Outcome.{File, Absent, Found, file_at, found_in, nothing_found, Done, says, says_and_writes, plans, source_of, costs_of, or_limits, program_of, carry_of, carried_or, first_program_of, renamed_of, upgrades, plan_outcome, check_outcome, upgrade_outcome}
 use Rattle.mage_planner.specs.SummaryText.{summary_text}
 use Rattle.mage_planner.specs.Steps.{Refuses}
 use Rattle.mage_planner.proofs.StepLemmas.{only_source, at_first, after_first, both_done}
@@ -99,6 +102,28 @@ check-carry check file program loaded plan s read spelled refused =
     (after_first s (program_of program) plan (to_carry loaded) spelled
     (at_first s (carry_of loaded.program plan) carried_or refused))
 
+-- what is refused where nothing is known of the desk is refused where something is
+pub steady_too : {T : Type 0} (steady : Bool) (s : Refusal) (work : Result T Refusal) → Refuses true s work → Refuses steady s work
+steady_too steady refusal.Desk work refused = λ sure. refused refl
+steady_too steady refusal.Memory work refused = tt
+steady_too steady other work refused = refused
+
+-- the same where the desk tells its files
+pub check-carry-told : (steady : Bool) (files : Option Files) (check : CheckRequest) (loaded : Loaded) (plan : MemProgram) (s : Refusal)
+    → IfSome files (λ f. source_of (file_at f check.source MOST_BYTES) ≡ Ok loaded)
+    → IfSome files (λ f. program_of (file_at f check.program most_bytes) ≡ Ok plan)
+    → Refuses true s (carry_of loaded.program plan)
+    → IfSome files (λ f. Refuses steady s (check_outcome (found_in f (Check check)) check))
+unfolding check_outcome
+check-carry-told steady None check loaded plan s read spelled refused = tt
+check-carry-told steady (Some f) check loaded plan s read spelled refused =
+    let source = file_at f check.source MOST_BYTES in
+    let program = file_at f check.program most_bytes in
+    steady_too steady s (source_of source >>= to_check program)
+    (after_first s (source_of source) loaded (to_check program) read
+    (after_first s (program_of program) plan (to_carry loaded) spelled
+    (at_first s (carry_of loaded.program plan) carried_or refused)))
+
 -- it has none
 pub check-all : (check : CheckRequest) (file program : File) (loaded : Loaded) (plan : MemProgram) (carry : Carry)
     → source_of file ≡ Ok loaded → program_of program ≡ Ok plan → carry_of loaded.program plan ≡ Ok carry
@@ -166,16 +191,16 @@ value_or x (Err why) = x
 pub plans_written : (out : List ℕ) (program : MemProgram) (costs : List WorkerStats) (bytes text : List ℕ)
     → ◌≡◌ {A = Result (List ℕ) Refusal} (Ok (spelling_of program)) (Ok bytes)
     → ◌≡◌ {A = Result Done Refusal} (Ok (says (summary_text costs))) (Ok (says text))
-    → ◌≡◌ {A = Result Done Refusal} (Ok (plans out program costs)) (Ok (record { said = text; files = record { name = out; bytes = bytes } ∷ []; moves = [] }))
+    → ◌≡◌ {A = Result Done Refusal} (Ok (plans out program costs)) (Ok (says_and_writes text (record { name = out; bytes = bytes } ∷ [])))
 plans_written out program costs bytes text spelled said =
     let b : spelling_of program ≡ bytes = ap (λ (r : Result (List ℕ) Refusal). value_or [] r) spelled in
     let t : summary_text costs ≡ text = ap (λ (r : Result Done Refusal). (value_or (says []) r).said) said in
-    ap₂ (λ (bs ts : List ℕ). Ok (record { said = ts; files = record { name = out; bytes = bs } ∷ []; moves = [] })) b t
+    ap₂ (λ (bs ts : List ℕ). Ok (says_and_writes ts (record { name = out; bytes = bs } ∷ []))) b t
 
 -- the bytes of the memory program's file are what is written, and nothing is said
 pub upgrades_written : (out : List ℕ) (program : MemProgram) (bytes text : List ℕ)
     → ◌≡◌ {A = Result (List ℕ) Refusal} (Ok (spelling_of program)) (Ok bytes) → text ≡ []
-    → ◌≡◌ {A = Result Done Refusal} (Ok (upgrades out program)) (Ok (record { said = text; files = record { name = out; bytes = bytes } ∷ []; moves = [] }))
+    → ◌≡◌ {A = Result Done Refusal} (Ok (upgrades out program)) (Ok (says_and_writes text (record { name = out; bytes = bytes } ∷ [])))
 upgrades_written out program bytes text spelled none =
     let b : spelling_of program ≡ bytes = ap (λ (r : Result (List ℕ) Refusal). value_or [] r) spelled in
-    rw none (ap (λ (bs : List ℕ). Ok (record { said = []; files = record { name = out; bytes = bs } ∷ []; moves = [] })) b)
+    rw none (ap (λ (bs : List ℕ). Ok (says_and_writes [] (record { name = out; bytes = bs } ∷ []))) b)

@@ -51,12 +51,12 @@ use Rattle.mage_planner.specs.declared.refusal.Refusal.TheVariants as refusal
 use Rattle.mage_planner.specs.declared.work.Running.{Running}
 use Rattle.mage_planner.specs.Outcome.{Done, NewFile, said_of}
 use Rattle.mage_planner.specs.Stores.{AreOfDesk, GivesBack, HaveMoved, IsRight}
-use Rattle.mage_planner.specs.Answer.{Finishes, BreaksOff, Ceases, Fails, Stops, StoresAreSound, OthersStay}
+use Rattle.mage_planner.specs.Answer.{Finishes, BreaksOff, Ceases, StoresAreSound, OthersStay}
 use Rattle.mage_planner.specs.Warned.{Grows}
 use Rattle.mage_planner.specs.Writing.{Finished, Interrupts, Performs}
 use Rattle.mage_planner.specs.Steps.{IsNotDesk}
 use Rattle.mage_planner.specs.Work.{CanBeRun, IsRunOf}
-use Rattle.mage_planner.specs.Ran.{orders_of, HasLent, LendsSo, EndsSo, IsUnbroken, Ran, RanSo}
+use Rattle.mage_planner.specs.Ran.{orders_of, HasLent, LendsSo, EndsSo, Halted, IsUnbroken, Ran, RanSo}
 use Rattle.mage_planner.proofs.PerformLemmas.{moved_count, none_back}
 use Rattle.mage_planner.proofs.WritingLemmas.{both_all, grows_front, none_stays}
 use Rattle.mage_planner.proofs.RunLemmas.{moves_of_parts, one_all, sound_back, sound_used, sound_unused, given, as_many, has_broken, has_damaged, were_deceived, rose, broken_inside, damaged_inside, all_moved}
@@ -159,31 +159,34 @@ module _ (running : Running) (done : Done) (is : IsRunOf running done) where
       }
       ends (Err (fault.Store worker)) verified moved stops said =
           let broken = has_broken before after all_parts fresh shelves lent shape grown back worker stops in
-          let inside = broken_inside before after all_parts fresh shelves lent shape grown back worker broken in (
-            omega (arith, inside, moves_count),
-            record {
-              shelves = shelves;
-              returns = record { few = few; given = given before after all_parts fresh shelves lent shape grown back };
-              broken = broken;
-              rose = rose before after all_parts fresh shelves lent shape grown back worker broken;
-            },
-          )
+          let inside = broken_inside before after all_parts fresh shelves lent shape grown back worker broken in
+          record {
+            shelves = shelves;
+            between = after;
+            returns = record { few = few; given = given before after all_parts fresh shelves lent shape grown back };
+            cause = (omega (arith, inside, moves_count), broken, rose before after all_parts fresh shelves lent shape grown back worker broken);
+            rest = refl;
+            faults = refl;
+          }
       ends (Err (fault.Damaged worker damage)) verified moved stops said =
           let damaged = has_damaged before after all_parts fresh shelves lent shape grown back worker damage stops in
-          let inside = damaged_inside before after all_parts fresh shelves lent shape grown back worker damage damaged in (
-            omega (arith, inside, moves_count),
-            record {
-              shelves = shelves;
-              returns = record { few = few; given = given before after all_parts fresh shelves lent shape grown back };
-              damaged = damaged;
-            },
-          )
+          let inside = damaged_inside before after all_parts fresh shelves lent shape grown back worker damage damaged in
+          record {
+            shelves = shelves;
+            between = after;
+            returns = record { few = few; given = given before after all_parts fresh shelves lent shape grown back };
+            cause = (omega (arith, inside, moves_count), damaged);
+            rest = refl;
+            faults = refl;
+          }
       ends (Err (fault.Driver worker f)) verified moved stops said = absurd stops
       ends (Err fault.Memory) verified moved stops said = record {
         shelves = shelves;
         between = after;
         returns = record { few = few; given = given before after all_parts fresh shelves lent shape grown back };
-        ceases = record { files = none_stays done.files after.files; rest = refl };
+        cause = tt;
+        rest = refl;
+        faults = refl;
       }
 
 -- ---- over stores that were just lent
@@ -332,24 +335,88 @@ pub said_so : (done : Done) (said text : List ℕ) (before after : DeskTold) →
 said_so done said text before after same ran = subst (λ (t : List ℕ). Ran done t before after) (sym same) ran
 
 -- there was no memory for it
-pub unsaid : (done : Done) (said : List ℕ) (before after : DeskTold) → Ran done said before after → Stops (Ok done) before after
+pub unsaid : (done : Done) (said : List ℕ) (before after : DeskTold) → Ran done said before after → Halted (length done.moves) refusal.Memory before after
 unsaid done said before after ran =
     let many = moved_count done.moves ran.shelves ran.moved in
     record {
       shelves = ran.shelves;
       between = after;
       returns = record { few = omega (arith, many); given = ran.given };
-      ceases = record { files = none_stays done.files after.files; rest = refl };
+      cause = tt;
+      rest = refl;
+      faults = refl;
     }
 
 pub text_ran : (done : Done) (said : List ℕ) (r : Result (Vec ℕ Global) Refusal) → IfOk r (λ text. text.items ≡ said) → IfErr r (λ why. why ≡ refusal.Memory)
     → (before after : DeskTold) → Ran done said before after → RanSo done r before after
 text_ran done said (Ok text) same memory before after ran = said_so done said text.items before after same ran
-text_ran done said (Err why) same memory before after ran = subst (λ (w : Refusal). Interrupts done w before after) (sym memory) (unsaid done said before after ran)
+text_ran done said (Err why) same memory before after ran = subst (λ (w : Refusal). Halted (length done.moves) w before after) (sym memory) (unsaid done said before after ran)
+
+-- ---- what stops a run stops the command
+
+-- the desk as it was but for its count of faults
+module _ (between after : DeskTold) (rest : after ≡ record between { faults = after.faults }) where
+  files_same : after.files ≡ between.files
+  files_same = ap (λ (desk : DeskTold). desk.files) rest
+
+  none_ceases : (written : List NewFile) → after.faults ≡ between.faults → Ceases written between after
+  none_ceases written same = record {
+    files = subst (λ (f : Option Files). OthersStay written between.files f) (sym files_same) (none_stays written between.files);
+    rest = rest ∙ ap₂ (λ (n : ℕ) (f : Option Files). record between { faults = n; files = f }) same (sym files_same);
+  }
+
+  none_breaks : (text : List ℕ) (written : List NewFile) → between.faults ≤ after.faults → Rose between.faults after.faults → BreaksOff text written between after
+  none_breaks text written rises rose = record {
+    said = subst (λ (s : Option (List ℕ)). Grows between.said s (λ old new. (n : ℕ) × (new ≡ old ++ take n text))) (sym (ap (λ (desk : DeskTold). desk.said) rest)) (grows_front between.said text);
+    files = subst (λ (f : Option Files). OthersStay written between.files f) (sym files_same) (none_stays written between.files);
+    rises = rises;
+    rose = rose;
+    rest = rest ∙ ap (λ (f : Option Files). record between { files = f; faults = after.faults }) (sym files_same)
+        ∙ ap₂ (λ (s : Option (List ℕ)) (n : ℕ). record between { files = after.files; said = s; faults = after.faults; room = n })
+        (sym (ap (λ (desk : DeskTold). desk.said) rest)) (sym (ap (λ (desk : DeskTold). desk.room) rest));
+  }
+
+pub halted : (done : Done) (why : Refusal) (before after : DeskTold) → Halted (length done.moves) why before after → Interrupts done why before after
+halted done refusal.Desk before after h = record {
+  shelves = h.shelves;
+  between = h.between;
+  returns = h.returns;
+  text = done.said;
+  right = inl refl;
+  breaks = none_breaks h.between after h.rest done.said (done.streams ++ done.files) h.faults.0 h.faults.1;
+}
+halted done refusal.Memory before after h = record {
+  shelves = h.shelves;
+  between = h.between;
+  returns = h.returns;
+  ceases = none_ceases h.between after h.rest (done.streams ++ done.files) h.faults;
+}
+halted done (refusal.Store worker) before after h = (
+  h.cause.0,
+  record {
+    shelves = h.shelves;
+    between = h.between;
+    returns = h.returns;
+    broken = h.cause.1;
+    rose = subst (λ (r : ℕ → Returned). Rose (before.returned worker).faults (r worker).faults) (sym (ap (λ (desk : DeskTold). desk.returned) h.rest)) h.cause.2;
+    ceases = none_ceases h.between after h.rest (done.streams ++ done.files) h.faults;
+  },
+)
+halted done (refusal.Damaged worker damage) before after h = (
+  h.cause.0,
+  record {
+    shelves = h.shelves;
+    between = h.between;
+    returns = h.returns;
+    damaged = h.cause.1;
+    ceases = none_ceases h.between after h.rest (done.streams ++ done.files) h.faults;
+  },
+)
+halted done why before after h = absurd h.cause
 
 -- ---- and then it is said
 
-pub ran_said : (done : Done) (text : List ℕ) (r : Result (Unit {0}) Refusal) (before between after : DeskTold) → done.files ≡ [] → Ran done text before between
+pub ran_said : (done : Done) (text : List ℕ) (r : Result (Unit {0}) Refusal) (before between after : DeskTold) → done.streams ++ done.files ≡ [] → Ran done text before between
     → Finished text [] r between after → Performs done r before after
 ran_said done text (Ok x) before between after none ran finishes = record {
   shelves = ran.shelves;
@@ -358,6 +425,9 @@ ran_said done text (Ok x) before between after none ran finishes = record {
   given = ran.given;
   text = text;
   right = ran.right;
+  filled = done.streams;
+  right_streams = inl refl;
+  named = refl;
   finishes = subst (λ (files : List NewFile). Finishes text files between after) (sym none) finishes;
 }
 ran_said done text (Err refusal.Desk) before between after none ran breaks =
@@ -380,8 +450,8 @@ ran_said done text (Err refusal.Memory) before between after none ran ceases =
     }
 ran_said done text (Err other) before between after none ran none_too = absurd none_too
 
-pub no_files : (running : Running) (done : Done) → IsRunOf running done → done.files ≡ []
-no_files running done is = ap (λ (d : Done). d.files) is.is
+pub no_files : (running : Running) (done : Done) → IsRunOf running done → done.streams ++ done.files ≡ []
+no_files running done is = ap (λ (d : Done). d.streams ++ d.files) is.is
 
 -- where the stores tell their pages it is the text that is due, which fits the room
 pub text_fits : (done : Done) (text : List ℕ) (before between : DeskTold) → IsTrue before.stores_tell_pages → Ran done text before between → length done.said ≤ before.room
@@ -414,12 +484,14 @@ all_sound desk worker = omega arith
 
 -- ---- where no store is lent
 
-pub nothing_done : (done : Done) (desk : DeskTold) → Stops (Ok done) desk desk
+pub nothing_done : (done : Done) (desk : DeskTold) → Halted (length done.moves) refusal.Memory desk desk
 nothing_done done desk = record {
   shelves = [];
   between = desk;
   returns = record { few = omega arith; given = none_back desk };
-  ceases = record { files = none_stays done.files desk.files; rest = refl };
+  cause = tt;
+  rest = refl;
+  faults = refl;
 }
 
 -- a store that was neither read nor written
@@ -482,38 +554,24 @@ module _ (before after : DeskTold) (workers : ℕ) (none : NoneAreLent before af
     few_unused : length (unused_shelves before none.count) ≤ length done.moves
     few_unused = let same = unused_count before none.count in let most = none.few in omega (arith, same, most, count)
 
-    pub unlent_fails : before.faults ≤ after.faults → Rose before.faults after.faults → Fails (Ok done) before after
+    pub unlent_fails : before.faults ≤ after.faults → Rose before.faults after.faults → Halted (length done.moves) refusal.Desk before after
     unlent_fails rises rose = record {
       shelves = unused_shelves before none.count;
       between = between;
       returns = record { few = few_unused; given = unused_given };
-      text = done.said;
-      right = inl refl;
-      breaks = record {
-        said = subst (λ (s : Option (List ℕ)). Grows before.said s (λ old new. (n : ℕ) × (new ≡ old ++ take n done.said))) (sym (ap (λ (desk : DeskTold). desk.said) rest_is)) (grows_front before.said done.said);
-        files = subst (λ (f : Option Files). OthersStay done.files before.files f) (sym (ap (λ (desk : DeskTold). desk.files) rest_is)) (none_stays done.files before.files);
-        rises = rises;
-        rose = rose;
-        rest = rest_is ∙ whole;
-      };
+      cause = tt;
+      rest = rest_is;
+      faults = (rises, rose);
     }
-      where
-        whole : record between { faults = after.faults } ≡ record between { files = after.files; said = after.said; faults = after.faults; room = after.room }
-        whole =
-            ap (λ (f : Option Files). record between { files = f; faults = after.faults }) (sym (ap (λ (desk : DeskTold). desk.files) rest_is))
-            ∙ ap₂ (λ (s : Option (List ℕ)) (r : ℕ). record between { files = after.files; said = s; faults = after.faults; room = r })
-            (sym (ap (λ (desk : DeskTold). desk.said) rest_is)) (sym (ap (λ (desk : DeskTold). desk.room) rest_is))
 
-    pub unlent_stops : after.faults ≡ before.faults → Stops (Ok done) before after
+    pub unlent_stops : after.faults ≡ before.faults → Halted (length done.moves) refusal.Memory before after
     unlent_stops same = record {
       shelves = unused_shelves before none.count;
       between = between;
       returns = record { few = few_unused; given = unused_given };
-      ceases = record {
-        files = subst (λ (f : Option Files). OthersStay done.files before.files f) (sym (ap (λ (desk : DeskTold). desk.files) rest_is)) (none_stays done.files before.files);
-        rest = rest_is ∙ ap (λ (n : ℕ). record between { faults = n }) same
-            ∙ ap (λ (f : Option Files). record between { files = f }) (sym (ap (λ (desk : DeskTold). desk.files) rest_is));
-      };
+      cause = tt;
+      rest = rest_is;
+      faults = same;
     }
 
   -- stores that weren't used don't fail
@@ -538,12 +596,12 @@ has_lent before now parts orders fresh same lent rest = record {
 }
 
 pub unlent : (T : Type 0) (running : Running) (done : Done) (orders : List StoreOrder) (why : Refusal) (before after : DeskTold) → IsRunOf running done → orders ≡ orders_of running.parts.items
-    → LendsSo {T = T} (length orders) (Err why) before after → Interrupts done why before after
+    → LendsSo {T = T} (length orders) (Err why) before after → Halted (length done.moves) why before after
 unlent T running done orders why before after is same lends = go why lends where
   count : length orders ≡ length done.moves
   count = ap (λ (all : List StoreOrder). length all) same ∙ length-map running.parts.items _ ∙ sym (moves_count running done is)
 
-  go : (why : Refusal) → LendsSo {T = T} (length orders) (Err why) before after → Interrupts done why before after
+  go : (why : Refusal) → LendsSo {T = T} (length orders) (Err why) before after → Halted (length done.moves) why before after
   go refusal.Desk lends = unlent_fails before after (length orders) lends.0 done count lends.1 lends.2
   go refusal.Memory lends = unlent_stops before after (length orders) lends.0 done count lends.1
   go other lends = absurd lends

@@ -1,5 +1,5 @@
 -- Only words that ask for nothing come to the refusal of words.
-use Rattle.std.proofs.Common.{◌≡◌, ◌==◌, ℕ, List, [], length, Bool, cond, true, false, Option, Some, None, Result, Ok, Err, ok_or, refl, sym, ap, ◌∙◌, inl, inr, arith}
+use Rattle.std.proofs.Common.{◌≡◌, ◌==◌, ℕ, List, [], length, Bool, cond, true, false, Option, Some, None, Result, Ok, Err, ok_or, refl, sym, ap, subst, ◌∙◌, inl, inr, arith}
 use Rattle.mage_chains.specs.Chains.{◌>>=◌}
 use Rattle.mage_base.specs.Desk.{DeskTold}
 use Rattle.mage_instr.specs.declared.party.Party.{Party}
@@ -24,13 +24,13 @@ use Rattle.mage_verify.specs.declared.fault.VerifyFault.TheVariants as verified
 use Rattle.mage_verify.specs.Faults.{fault_of}
 use Rattle.mage_texts.specs.InputText.{inputs_of}
 use Rattle.mage_source_runs.specs.Moves.{moves_of}
-use Rattle.mage_words.specs.Words.{Request, Solo, Stats, Deal, Plan, Check, Upgrade, Gen, SoloRequest, StatsRequest, DealRequest, PlanRequest, CheckRequest, UpgradeRequest, request_of}
+use Rattle.mage_words.specs.Words.{Request, Solo, Stats, Deal, Plan, Check, Upgrade, Gen, SoloRequest, StatsRequest, DealRequest, PlanRequest, CheckRequest, UpgradeRequest, GenRequest, request_of}
 use Rattle.mage_planner.specs.declared.refusal.Refusal.{Refusal}
 use Rattle.mage_planner.specs.declared.refusal.Refusal.TheVariants as refusal
 use Rattle.mage_planner.specs.declared.status.Status.{Status}
 use Rattle.mage_planner.specs.declared.status.Status.TheVariants as status
 use Rattle.mage_planner.specs.Lines.{status_of}
-use Rattle.mage_planner.specs.Outcome.{File, Absent, Long, Held, Found, Done, SEED_BYTES, says, runs, deals, bytes_or, or_language, or_limits, or_line, long_source, said_of, source_of, costs_of, program_for, if_seed, seed_of, numbers_of, plans, or_file, unless_faulty, long_program, program_of, carry_of, carried_or, first_program_of, renamed_of, upgrades, solo_outcome, stats_outcome, deal_outcome, plan_outcome, check_outcome, upgrade_outcome, outcome_for, outcome_of, asked_of, if_built, is_plain}
+use Rattle.mage_planner.specs.Outcome.{File, Absent, Long, Held, Found, Done, SEED_BYTES, says, runs, deals, bytes_or, or_language, or_limits, or_line, long_source, said_of, source_of, costs_of, program_for, if_seed, seed_of, numbers_of, plans, or_file, unless_faulty, long_program, program_of, carry_of, carried_or, first_program_of, renamed_of, upgrades, solo_outcome, stats_outcome, deal_outcome, plan_outcome, check_outcome, upgrade_outcome, gen_outcome, found_for_gen, solo_for, stats_for, generates, generated_files, outcome_for, outcome_of, asked_of, if_built, is_plain}
 use Rattle.mage_planner.specs.SummaryText.{summary_text}
 use Rattle.mage_planner.specs.Warned.{IsOrMemory}
 use Rattle.mage_planner.specs.Answer.{Works, ComesFrom, IsWordsOrMemory, WritesNoFile, RunsNothing}
@@ -189,6 +189,13 @@ upgrade_other found upgrade =
     then_other (renamed_of program) (λ renamed. Ok (upgrades upgrade.out renamed))
     (faulty_other (fault_of program) _) (λ renamed. tt))
 
+gen_other : (gen : GenRequest) → NoWords (gen_outcome gen)
+unfolding gen_outcome
+gen_other gen =
+    then_other (solo_outcome (found_for_gen gen) (solo_for gen)) _ (solo_other (found_for_gen gen) (solo_for gen)) (λ run.
+    then_other (stats_outcome (found_for_gen gen) (stats_for gen)) (λ summary. Ok (generates (generated_files gen) summary.said run))
+    (stats_other (found_for_gen gen) (stats_for gen)) (λ summary. tt))
+
 words_only : (outcome : Result Done Refusal) → NoWords outcome → outcome ≡ Err refusal.Words → ⊥
 words_only (Ok done) other e = cc
 words_only (Err why) other e = words_not why other (cc) where
@@ -209,7 +216,7 @@ asks_nothing found (Some (Deal deal)) e = absurd (words_only (deal_outcome found
 asks_nothing found (Some (Plan plan)) e = absurd (words_only (plan_outcome found plan) (plan_other found plan) e)
 asks_nothing found (Some (Check check)) e = absurd (words_only (check_outcome found check) (check_other found check) e)
 asks_nothing found (Some (Upgrade upgrade)) e = absurd (words_only (upgrade_outcome found upgrade) (upgrade_other found upgrade) e)
-asks_nothing found (Some (Gen gen)) e = refl
+asks_nothing found (Some (Gen gen)) e = absurd (words_only (gen_outcome gen) (gen_other gen) e)
 
 is_words : (why : Refusal) → status_of why ≡ status.Words → why ≡ refusal.Words
 is_words refusal.Words e = refl
@@ -259,19 +266,26 @@ then_ok (Err why) f y is = cc
 same_done : (x done : Done) → ◌≡◌ {A = Result Done Refusal} (Ok x) (Ok done) → x ≡ done
 same_done x done is = cc
 
-says_no_file : (text : List ℕ) (done : Done) → ◌≡◌ {A = Result Done Refusal} (Ok (says text)) (Ok done) → done.files ≡ []
-says_no_file text done is = ap (λ (d : Done). d.files) (sym (same_done (says text) done is))
+-- what is done writes no file and fills no stream
+abbrev pub IsBare : Done → Type 0
+IsBare done = (done.files ≡ []) × (done.streams ≡ [])
 
-solo_writes_none : (found : Found) (solo : SoloRequest) (done : Done) → solo_outcome found solo ≡ Ok done → done.files ≡ []
+bare_too : (x done : Done) → IsBare x → ◌≡◌ {A = Result Done Refusal} (Ok x) (Ok done) → IsBare done
+bare_too x done bare is = subst IsBare (same_done x done is) bare
+
+says_no_file : (text : List ℕ) (done : Done) → ◌≡◌ {A = Result Done Refusal} (Ok (says text)) (Ok done) → IsBare done
+says_no_file text done is = bare_too (says text) done (refl, refl) is
+
+solo_writes_none : (found : Found) (solo : SoloRequest) (done : Done) → solo_outcome found solo ≡ Ok done → IsBare done
 unfolding solo_outcome
 solo_writes_none found solo done is =
     let loaded = then_ok (source_of found.source) _ done is in
     let program = then_ok (program_for solo.limits loaded.0) _ done loaded.1 in
     let garbler = then_ok (numbers_of party.Garbler loaded.0 found.garbler) _ done program.1 in
     let evaluator = then_ok (numbers_of party.Evaluator loaded.0 found.evaluator) _ done garbler.1 in
-    ap (λ (d : Done). d.files) (sym (same_done _ done evaluator.1))
+    bare_too _ done (refl, refl) evaluator.1
 
-stats_writes_none : (found : Found) (stats : StatsRequest) (done : Done) → stats_outcome found stats ≡ Ok done → done.files ≡ []
+stats_writes_none : (found : Found) (stats : StatsRequest) (done : Done) → stats_outcome found stats ≡ Ok done → IsBare done
 unfolding stats_outcome
 stats_writes_none found stats done is =
     let loaded = then_ok (source_of found.source) _ done is in
@@ -279,11 +293,11 @@ stats_writes_none found stats done is =
     says_no_file _ done costs.1
 
 -- what carries says a text
-carried_none : (judged : Carry) (done : Done) → carried_or judged ≡ Ok done → done.files ≡ []
+carried_none : (judged : Carry) (done : Done) → carried_or judged ≡ Ok done → IsBare done
 carried_none carry.Yes done is = says_no_file _ done is
 carried_none (carry.No worker directive) done is = cc
 
-check_writes_none : (found : Found) (check : CheckRequest) (done : Done) → check_outcome found check ≡ Ok done → done.files ≡ []
+check_writes_none : (found : Found) (check : CheckRequest) (done : Done) → check_outcome found check ≡ Ok done → IsBare done
 unfolding check_outcome
 check_writes_none found check done is =
     let loaded = then_ok (source_of found.source) _ done is in
@@ -292,10 +306,10 @@ check_writes_none found check done is =
     carried_none judged.0 done judged.1
 
 -- what is done by words that ask for no file has none
-pub writes_none_of : (found : Found) (words : List (List ℕ)) (done : Done) → WritesNoFile (asked_of words) → outcome_of found words ≡ Ok done → done.files ≡ []
+pub writes_none_of : (found : Found) (words : List (List ℕ)) (done : Done) → WritesNoFile (asked_of words) → outcome_of found words ≡ Ok done → IsBare done
 unfolding outcome_of
 writes_none_of found words done none is = go (asked_of words) none is where
-  go : (asked : Option Request) → WritesNoFile asked → (ok_or asked refusal.Words >>= outcome_for found) ≡ Ok done → done.files ≡ []
+  go : (asked : Option Request) → WritesNoFile asked → (ok_or asked refusal.Words >>= outcome_for found) ≡ Ok done → IsBare done
   go None none is = cc
   go (Some (Solo solo)) none is = solo_writes_none found solo done is
   go (Some (Stats stats)) none is = stats_writes_none found stats done is
@@ -405,4 +419,4 @@ no_store_fault found words why of e = go (request_of words) e where
   go (Some (Plan plan)) e = not_store (plan_outcome found plan) (plan_other found plan) why of e
   go (Some (Check check)) e = not_store (check_outcome found check) (check_other found check) why of e
   go (Some (Upgrade upgrade)) e = not_store (upgrade_outcome found upgrade) (upgrade_other found upgrade) why of e
-  go (Some (Gen gen)) e = not_words why of e
+  go (Some (Gen gen)) e = not_store (gen_outcome gen) (gen_other gen) why of e

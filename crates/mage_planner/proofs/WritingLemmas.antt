@@ -53,7 +53,7 @@ both_all {X} P x xs one all = go where
   go (suc k) d less = all k d (omega (arith, less))
 
 -- another name is as before
-off : (files : Files) (name bytes other : List ℕ) → name ≢ other → with_file files name bytes other ≡ files other
+pub off : (files : Files) (name bytes other : List ℕ) → name ≢ other → with_file files name bytes other ≡ files other
 off files name bytes other differ = go (bytes_eq name other) refl where
   go : (b : Bool) → bytes_eq name other ≡ b → cond b (Some bytes) (files other) ≡ files other
   go true same = absurd (differ ((bytes_eq-Decides name other).0 same))
@@ -157,7 +157,7 @@ files_append : (files : Option Files) (first others : List NewFile) → with_fil
 files_append files [] others = refl
 files_append files (file ∷ first) others = files_append (files_with files file.name file.bytes) first others
 
-first_stay : (files : Option Files) (first : List NewFile) → OthersStay first files (with_files files first)
+pub first_stay : (files : Option Files) (first : List NewFile) → OthersStay first files (with_files files first)
 first_stay files [] = none_stays [] files
 first_stay files (file ∷ first) =
     more_stay (file ∷ []) first files (files_with files file.name file.bytes) (with_files (files_with files file.name file.bytes) first)

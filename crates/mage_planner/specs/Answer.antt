@@ -1,5 +1,5 @@
 -- What a call answers, against what its command comes to.
-use Rattle.std.specs.Prelude.{◌≡◌, ◌≢◌, ◌≤◌, ◌<◌, ◌+◌, ℕ, List, [], ◌∷◌, ◌++◌, length, take, Bool, false, IsTrue, All, Option, Some, None, IsSomeAnd, Result, Ok, Err, IsOkAnd}
+use Rattle.std.specs.Prelude.{◌≡◌, ◌≢◌, ◌≤◌, ◌<◌, ◌+◌, ℕ, List, [], ◌∷◌, ◌++◌, length, map, take, Bool, false, IsTrue, All, Option, Some, None, IsSomeAnd, Result, Ok, Err, IsOkAnd}
 use Rattle.mage_base.specs.declared.failure.Damage.{Damage}
 use Rattle.mage_base.specs.Desk.{DeskTold, Files, files_with}
 use Rattle.mage_base.specs.Faults.{Rose}
@@ -33,8 +33,8 @@ pub record Finishes (text : List ℕ) (written : List NewFile) (before after : D
     room = after.room;
   }
 
--- It asks for a store for each worker, moves their pages as often as it has to, and gives them back; then it says its text, which
--- is another one where the stores deceived, and writes its files.
+-- It asks for a store for each worker, moves their pages as often as it has to, and gives them back; it says its text and writes
+-- its files and streams. The text, and the bytes of the streams, are others where the stores deceived.
 pub record Does (done : Done) (before after : DeskTold) : Type 0 where
   pub shelves : List (List StoreTold)
   pub moved : HaveMoved done.moves shelves
@@ -42,7 +42,10 @@ pub record Does (done : Done) (before after : DeskTold) : Type 0 where
   pub given : GivesBack shelves before between
   pub text : List ℕ
   pub right : IsRight before shelves done.said text
-  pub finishes : Finishes text done.files between after
+  pub filled : List NewFile
+  pub right_streams : IsRight before shelves done.streams filled
+  pub named : map (λ file. file.name) filled ≡ map (λ file. file.name) done.streams
+  pub finishes : Finishes text (filled ++ done.files) between after
 
 -- ---- what a refusal leaves
 
@@ -52,7 +55,7 @@ text_of (Ok done) = done.said
 text_of (Err why) = []
 
 abbrev pub files_of : Result Done Refusal → List NewFile
-files_of (Ok done) = done.files
+files_of (Ok done) = done.streams ++ done.files
 files_of (Err why) = []
 
 abbrev pub moves_in : Result Done Refusal → List Moves
@@ -84,16 +87,16 @@ pub record Ceases (written : List NewFile) (before after : DeskTold) : Type 0 wh
   pub files : OthersStay written before.files after.files
   pub rest : after ≡ record before { files = after.files }
 
--- Stores of the first workers, of no more than the command asks for, were lent and are given back.
-pub record Returns (outcome : Result Done Refusal) (shelves : List (List StoreTold)) (before after : DeskTold) : Type 0 where
-  pub few : length shelves ≤ length (moves_in outcome)
+-- Stores of the first of so many workers were lent and are given back.
+pub record Returns (workers : ℕ) (shelves : List (List StoreTold)) (before after : DeskTold) : Type 0 where
+  pub few : length shelves ≤ workers
   pub given : GivesBack shelves before after
 
 -- What a fault of the desk leaves: it may come while stores are asked for, and while a command writes its files and says its text.
 pub record Fails (outcome : Result Done Refusal) (before after : DeskTold) : Type 0 where
   pub shelves : List (List StoreTold)
   pub between : DeskTold
-  pub returns : Returns outcome shelves before between
+  pub returns : Returns (length (moves_in outcome)) shelves before between
   pub text : List ℕ
   pub right : IsRight before shelves (text_of outcome) text
   pub breaks : BreaksOff text (files_of outcome) between after
@@ -102,21 +105,25 @@ pub record Fails (outcome : Result Done Refusal) (before after : DeskTold) : Typ
 pub record Stops (outcome : Result Done Refusal) (before after : DeskTold) : Type 0 where
   pub shelves : List (List StoreTold)
   pub between : DeskTold
-  pub returns : Returns outcome shelves before between
+  pub returns : Returns (length (moves_in outcome)) shelves before between
   pub ceases : Ceases (files_of outcome) between after
 
--- what a store's fault leaves: nothing is said, and no file is written
+-- what a store's fault leaves: nothing is said, and each file stays that isn't one of the command's
 pub record Breaks (outcome : Result Done Refusal) (worker : ℕ) (before after : DeskTold) : Type 0 where
   pub shelves : List (List StoreTold)
-  pub returns : Returns outcome shelves before after
+  pub between : DeskTold
+  pub returns : Returns (length (moves_in outcome)) shelves before between
   pub broken : HasBroken shelves worker
   pub rose : Rose (before.returned worker).faults (after.returned worker).faults
+  pub ceases : Ceases (files_of outcome) between after
 
--- what a damaged page leaves: nothing is said, and no file is written
+-- what a damaged page leaves: the same
 pub record Damages (outcome : Result Done Refusal) (worker : ℕ) (damage : Damage) (before after : DeskTold) : Type 0 where
   pub shelves : List (List StoreTold)
-  pub returns : Returns outcome shelves before after
+  pub between : DeskTold
+  pub returns : Returns (length (moves_in outcome)) shelves before between
   pub damaged : HasDamaged before shelves worker damage
+  pub ceases : Ceases (files_of outcome) between after
 
 -- what a refusal leaves before its line is warned; any other leaves all that the desk tells
 abbrev pub Leaves : Result Done Refusal → Refusal → (before after : DeskTold) → Type 0

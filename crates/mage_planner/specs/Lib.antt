@@ -11,3 +11,4 @@ pub mod Writing
 pub mod Ran
 pub mod Upgrading
 pub mod Checking
+pub mod Finding

@@ -13,6 +13,8 @@ use Rattle.mage_planner.specs.declared.refusal.Refusal.{Refusal}
 use Rattle.mage_planner.specs.declared.refusal.Refusal.TheVariants as refusal
 use Rattle.mage_planner.specs.declared.refusal.ProgramFault.{ProgramFault}
 use Rattle.mage_planner.specs.declared.refusal.ProgramFault.TheVariants as wrong
+use Rattle.mage_planner.specs.declared.refusal.StreamFault.{StreamFault}
+use Rattle.mage_planner.specs.declared.refusal.StreamFault.TheVariants as stream
 use Rattle.mage_planner.specs.declared.status.Status.{Status}
 use Rattle.mage_planner.specs.declared.status.Status.TheVariants as status
 
@@ -24,10 +26,12 @@ status_of (refusal.Limits worker tight) = status.Limits
 status_of (refusal.InputLine party line) = status.InputText
 status_of (refusal.InputTooLong party) = status.InputText
 status_of refusal.InputSeed = status.InputText
+status_of (refusal.InputLabels worker) = status.InputText
 status_of (refusal.MemoryProgram fault) = status.MemoryProgram
 status_of (refusal.CheckNo worker directive) = status.CheckNo
 status_of (refusal.Store worker) = status.Store
 status_of (refusal.Damaged worker damage) = status.Damaged
+status_of (refusal.Stream worker fault) = status.Stream
 status_of refusal.Desk = status.Desk
 status_of refusal.Memory = status.Memory
 
@@ -78,6 +82,12 @@ program_parts (wrong.PageState worker directive) = codes "PageState " ∷ direct
 program_parts (wrong.Width worker directive) = codes "Width " ∷ directive_parts worker directive
 program_parts (wrong.Links worker directive) = codes "Links " ∷ directive_parts worker directive
 
+-- what is wrong with a stream, to the end of the line
+abbrev pub stream_parts : StreamFault → List (List ℕ)
+stream_parts (stream.Short place) = codes "short at " ∷ decimal place ∷ codes "\n" ∷ []
+stream_parts (stream.Long place) = codes "long at " ∷ decimal place ∷ codes "\n" ∷ []
+stream_parts (stream.Colour place) = codes "colour at " ∷ decimal place ∷ codes "\n" ∷ []
+
 -- the parts of a refusal's line
 abbrev pub line_parts : Refusal → List (List ℕ)
 line_parts refusal.Words = codes "mage: bad words\n" ∷ []
@@ -90,12 +100,14 @@ line_parts (refusal.InputLine party line) =
     codes "mage: input " ∷ party_name party ∷ codes " line " ∷ decimal line ∷ codes "\n" ∷ []
 line_parts (refusal.InputTooLong party) = codes "mage: input " ∷ party_name party ∷ codes " too long\n" ∷ []
 line_parts refusal.InputSeed = codes "mage: input seed\n" ∷ []
+line_parts (refusal.InputLabels worker) = codes "mage: input labels " ∷ decimal worker ∷ codes "\n" ∷ []
 line_parts (refusal.MemoryProgram fault) = codes "mage: memory program: " ∷ program_parts fault
 line_parts (refusal.CheckNo worker directive) = codes "mage: check: " ∷ directive_parts worker directive
 line_parts (refusal.Store worker) = codes "mage: store fault: worker " ∷ decimal worker ∷ codes "\n" ∷ []
 line_parts (refusal.Damaged worker damage) =
     codes "mage: damaged: worker " ∷ decimal worker ∷ codes " page " ∷ decimal damage.page
     ∷ codes " kept " ∷ encode_lower damage.kept ∷ codes " found " ∷ encode_lower damage.found ∷ codes "\n" ∷ []
+line_parts (refusal.Stream worker fault) = codes "mage: stream of worker " ∷ decimal worker ∷ codes ": " ∷ stream_parts fault
 line_parts refusal.Desk = codes "mage: desk fault\n" ∷ []
 line_parts refusal.Memory = codes "mage: no memory\n" ∷ []
 

@@ -1,9 +1,12 @@
 -- What a command comes to, in the order of work.
-use Rattle.std.specs.Prelude.{ℕ, Bool, true, false, zero, suc, ◌+◌, ◌==◌, List, [], ◌∷◌, length, Option, Some, None, Result, Ok, Err, ok_or, nat_lt, codes, if◌then◌else◌}
+use Rattle.std.specs.Prelude.{ℕ, Bool, true, false, zero, suc, ◌+◌, ◌==◌, List, [], ◌∷◌, ◌++◌, length, Option, Some, None, Result, Ok, Err, ok_or, nat_lt, codes, if◌then◌else◌}
 use Rattle.std.specs.List.{concat}
 use Rattle.std.specs.Fmt.{decimal}
 use Rattle.mage_base.specs.Desk.{Files}
 use Rattle.mage_chains.specs.Chains.{◌>>=◌}
+use Rattle.mage_gen.specs.declared.order.GenOrder.{GenOrder}
+use Rattle.mage_gen.specs.Generator.{garbler_text, evaluator_text}
+use Rattle.mage_gen.specs.Source.{source_text}
 use Rattle.mage_instr.specs.declared.replaced.Limits.{Limits}
 use Rattle.mage_lex.specs.declared.fault.LangFault.{LangFault}
 use Rattle.mage_lex.specs.declared.fault.LangFault.TheVariants as lang
@@ -43,7 +46,7 @@ use Rattle.mage_planner.specs.declared.refusal.Refusal.{Refusal}
 use Rattle.mage_planner.specs.declared.refusal.Refusal.TheVariants as refusal
 use Rattle.mage_planner.specs.declared.refusal.ProgramFault.TheVariants as wrong
 use Rattle.mage_planner.specs.SummaryText.{summary_text}
-use Rattle.mage_words.specs.Words.{Driver, Plain, Garble, Eval, Request, Solo, Stats, Deal, Plan, Check, Upgrade, Gen, SoloRequest, StatsRequest, DealRequest, PlanRequest, CheckRequest, UpgradeRequest, request_of}
+use Rattle.mage_words.specs.Words.{Driver, Plain, Garble, Eval, Request, Solo, Stats, Deal, Plan, Check, Upgrade, Gen, SoloRequest, StatsRequest, DealRequest, PlanRequest, CheckRequest, UpgradeRequest, GenRequest, request_of}
 
 -- a file as a fetch with a limit finds it
 pub data File : Type 0 where
@@ -70,10 +73,21 @@ pub record Found : Type 0 where
   pub evaluator : File
   pub seed : File
   pub program : File
+  -- the label file and the stream file of each worker
+  pub labels : ℕ → File
+  pub streams : ℕ → File
 
 -- no file was read
 abbrev pub nothing_found : Found
-nothing_found = record { source = Absent; garbler = Absent; evaluator = Absent; seed = Absent; program = Absent }
+nothing_found = record {
+  source = Absent;
+  garbler = Absent;
+  evaluator = Absent;
+  seed = Absent;
+  program = Absent;
+  labels = λ worker. Absent;
+  streams = λ worker. Absent;
+}
 
 -- the bytes of a seed
 abbrev pub SEED_BYTES : ℕ
@@ -96,20 +110,16 @@ evaluator_of (Eval stream labels) = None
 
 -- A source is no longer than a text may be, nor a memory program than its file. What a command doesn't read counts as absent.
 abbrev pub found_in : Files → Request → Found
-found_in files (Solo solo) = record {
+found_in files (Solo solo) = record nothing_found {
   source = file_at files solo.source MOST_BYTES;
   garbler = file_named files (garbler_of solo.driver) INPUT_LIMIT;
   evaluator = file_named files (evaluator_of solo.driver) INPUT_LIMIT;
-  seed = Absent;
-  program = Absent;
 }
 found_in files (Stats stats) = record nothing_found { source = file_at files stats.source MOST_BYTES }
-found_in files (Deal deal) = record {
+found_in files (Deal deal) = record nothing_found {
   source = file_at files deal.source MOST_BYTES;
-  garbler = Absent;
   evaluator = file_named files deal.evaluator INPUT_LIMIT;
   seed = file_at files deal.seed SEED_BYTES;
-  program = Absent;
 }
 found_in files (Plan plan) = record nothing_found { source = file_at files plan.source MOST_BYTES }
 found_in files (Check check) = record nothing_found {
@@ -135,16 +145,22 @@ pub record Done : Type 0 where
   pub said : List ℕ
   -- the files that it writes, in this order
   pub files : List NewFile
+  -- the stream files that it fills while its memory program runs, in this order
+  pub streams : List NewFile
   -- how often it reads and writes the store of each worker; none where it asks for no store
   pub moves : List Moves
 
 -- it says a text, writes no file and asks for no store
 abbrev pub says : List ℕ → Done
-says text = record { said = text; files = []; moves = [] }
+says text = record { said = text; files = []; streams = []; moves = [] }
 
 -- it runs a memory program that moves so many pages, and says a text
 abbrev pub runs : List ℕ → List Moves → Done
-runs text moves = record { said = text; files = []; moves = moves }
+runs text moves = record { said = text; files = []; streams = []; moves = moves }
+
+-- it says a text and writes files
+abbrev pub says_and_writes : List ℕ → List NewFile → Done
+says_and_writes text files = record { said = text; files = files; streams = []; moves = [] }
 
 -- the bytes of a file, or what its length or its absence is answered with
 abbrev pub bytes_or : Refusal → File → Result (List ℕ) Refusal
@@ -248,11 +264,7 @@ label_files stem program seed evaluator first (suc count) =
 
 -- it says nothing, and writes the label file of each worker
 abbrev pub deals : (stem : List ℕ) → Program → (seed : List ℕ) → (evaluator : List (List ℕ)) → Done
-deals stem program seed evaluator = record {
-  said = [];
-  files = label_files stem program seed evaluator 0 (length program.workers);
-  moves = [];
-}
+deals stem program seed evaluator = says_and_writes [] (label_files stem program seed evaluator 0 (length program.workers))
 
 -- what `deal` does: it writes the label files of the evaluator's numbers
 unfoldable pub deal_outcome : Found → DealRequest → Result Done Refusal
@@ -266,11 +278,7 @@ deal_outcome found deal = do
 
 -- it writes the file of the memory program, and says what it costs
 abbrev pub plans : (out : List ℕ) → MemProgram → List WorkerStats → Done
-plans out program costs = record {
-  said = summary_text costs;
-  files = record { name = out; bytes = spelling_of program } ∷ [];
-  moves = [];
-}
+plans out program costs = says_and_writes (summary_text costs) (record { name = out; bytes = spelling_of program } ∷ [])
 
 -- what `plan` does: it writes the memory program that the passes make of the source
 unfoldable pub plan_outcome : Found → PlanRequest → Result Done Refusal
@@ -346,11 +354,7 @@ renamed_of program = unless_faulty (fault_of program) (rehomed_of program)
 
 -- it writes the file of the memory program, and says nothing
 abbrev pub upgrades : (out : List ℕ) → MemProgram → Done
-upgrades out program = record {
-  said = [];
-  files = record { name = out; bytes = spelling_of program } ∷ [];
-  moves = [];
-}
+upgrades out program = says_and_writes [] (record { name = out; bytes = spelling_of program } ∷ [])
 
 -- what `upgrade` does: it writes a memory program of the first version with store pages
 unfoldable pub upgrade_outcome : Found → UpgradeRequest → Result Done Refusal
@@ -359,6 +363,59 @@ upgrade_outcome found upgrade = do
   renamed ← renamed_of program
   Ok (upgrades upgrade.out renamed)
 
+-- ---- generated sources
+
+-- what is to be generated
+abbrev pub order_of : GenRequest → GenOrder
+order_of gen = record { items = gen.items; rows = gen.rows; workers = gen.workers; number = gen.number }
+
+-- the file whose name is a stem and this ending
+abbrev pub ending_file : (stem ending bytes : List ℕ) → NewFile
+ending_file stem ending bytes = record { name = concat (stem ∷ ending ∷ []); bytes = bytes }
+
+abbrev pub source_file : GenRequest → NewFile
+source_file gen = ending_file gen.out (codes ".mage") (source_text (order_of gen))
+
+abbrev pub garbler_file : GenRequest → NewFile
+garbler_file gen = ending_file gen.out (codes ".garbler") (garbler_text (order_of gen))
+
+abbrev pub evaluator_file : GenRequest → NewFile
+evaluator_file gen = ending_file gen.out (codes ".evaluator") (evaluator_text (order_of gen))
+
+-- the files of the source and of its input texts
+abbrev pub generated_files : GenRequest → List NewFile
+generated_files gen = source_file gen ∷ garbler_file gen ∷ evaluator_file gen ∷ []
+
+-- what `solo`, and what `stats`, is asked for that reads these files
+abbrev pub solo_for : GenRequest → SoloRequest
+solo_for gen = record {
+  source = (source_file gen).name;
+  driver = Plain (Some (garbler_file gen).name) (Some (evaluator_file gen).name);
+  limits = gen.limits;
+}
+
+abbrev pub stats_for : GenRequest → StatsRequest
+stats_for gen = record { source = (source_file gen).name; limits = gen.limits }
+
+-- what they find
+abbrev pub found_for_gen : GenRequest → Found
+found_for_gen gen = record nothing_found {
+  source = Held (source_file gen).bytes;
+  garbler = Held (garbler_file gen).bytes;
+  evaluator = Held (evaluator_file gen).bytes;
+}
+
+-- it writes files, and says a summary and then what a run says
+abbrev pub generates : List NewFile → (summary : List ℕ) → (run : Done) → Done
+generates files summary run = record { said = summary ++ run.said; files = files; streams = []; moves = run.moves }
+
+-- what `gen` does: it writes the files, and does what `solo` does on them, but that it first says what `stats` says
+unfoldable pub gen_outcome : GenRequest → Result Done Refusal
+gen_outcome gen = do
+  run ← solo_outcome (found_for_gen gen) (solo_for gen)
+  summary ← stats_outcome (found_for_gen gen) (stats_for gen)
+  Ok (generates (generated_files gen) summary.said run)
+
 -- ---- the words
 
 abbrev pub is_plain : Driver → Bool
@@ -366,10 +423,9 @@ is_plain (Plain garbler evaluator) = true
 is_plain (Garble garbler seed stream) = false
 is_plain (Eval stream labels) = false
 
--- whether a command is built: `gen`, and the other drivers of `solo`, are still to come
+-- whether a command is built: the other drivers of `solo` are still to come
 abbrev pub is_built : Request → Bool
 is_built (Solo solo) = is_plain solo.driver
-is_built (Gen gen) = false
 is_built other = true
 
 abbrev pub if_built : Option Request → Option Request
@@ -387,7 +443,7 @@ outcome_for found (Deal deal) = deal_outcome found deal
 outcome_for found (Plan plan) = plan_outcome found plan
 outcome_for found (Check check) = check_outcome found check
 outcome_for found (Upgrade upgrade) = upgrade_outcome found upgrade
-outcome_for found (Gen gen) = Err refusal.Words
+outcome_for found (Gen gen) = gen_outcome gen
 
 -- what a command does, or the first refusal in the order of work; an absent file stops it too
 unfoldable pub outcome_of : Found → List (List ℕ) → Result Done Refusal

@@ -1,5 +1,5 @@
 -- What running a memory program over stores of the desk comes to.
-use Rattle.std.specs.Prelude.{◌≡◌, ◌≤◌, ◌++◌, ℕ, List, length, map, Vec, Result, Ok, Err}
+use Rattle.std.specs.Prelude.{◌≡◌, ◌≤◌, ◌<◌, ◌++◌, ℕ, List, length, map, Vec, Result, Ok, Err}
 use Rattle.std.specs.declared.alloc.Global.{Global}
 use Rattle.mage_base.specs.Desk.{DeskTold}
 use Rattle.mage_base.specs.Faults.{Rose}
@@ -14,8 +14,9 @@ use Rattle.mage_lending.specs.Stores.{AreLent, NoneAreLent, own_stores}
 use Rattle.mage_planner.specs.declared.refusal.Refusal.{Refusal}
 use Rattle.mage_planner.specs.declared.refusal.Refusal.TheVariants as refusal
 use Rattle.mage_planner.specs.Outcome.{Done}
-use Rattle.mage_planner.specs.Stores.{GivesBack, HaveMoved, IsRight}
-use Rattle.mage_planner.specs.Writing.{Interrupts}
+use Rattle.mage_planner.specs.Answer.{Returns}
+use Rattle.mage_planner.specs.Steps.{RefusalCounted}
+use Rattle.mage_planner.specs.Stores.{GivesBack, HaveMoved, HasBroken, HasDamaged, IsRight}
 
 -- the stores that parts need: as many pages as they name, each of as many bytes as it has wires
 abbrev pub orders_of : List WorkerPart → List StoreOrder
@@ -34,6 +35,15 @@ pub record HasLent (before : DeskTold) (parts : List WorkerPart) (fresh : List (
   pub stores : AreLent before (orders_of parts) fresh
   pub rest : now ≡ record before { lent = before.lent ++ own_stores 0 (length parts) }
 
+-- why a run stopped that asked for the stores of so many workers
+abbrev pub IsHalt : (workers : ℕ) → (before : DeskTold) → (shelves : List (List StoreTold)) → (after : DeskTold) → Refusal → Type 0
+IsHalt workers before shelves after refusal.Desk = Unit {0}
+IsHalt workers before shelves after refusal.Memory = Unit {0}
+IsHalt workers before shelves after (refusal.Store worker) =
+    (worker < workers) × HasBroken shelves worker × Rose (before.returned worker).faults (after.returned worker).faults
+IsHalt workers before shelves after (refusal.Damaged worker damage) = (worker < workers) × HasDamaged before shelves worker damage
+IsHalt workers before shelves after other = ⊥
+
 -- The stores are back that were moved as often as is due, and this text is to be said.
 pub record Ran (done : Done) (text : List ℕ) (before after : DeskTold) : Type 0 where
   pub shelves : List (List StoreTold)
@@ -41,13 +51,22 @@ pub record Ran (done : Done) (text : List ℕ) (before after : DeskTold) : Type 
   pub given : GivesBack shelves before after
   pub right : IsRight before shelves done.said text
 
+-- A run of so many workers was stopped by this: the stores are back, and nothing was said and no file written.
+pub record Halted (workers : ℕ) (why : Refusal) (before after : DeskTold) : Type 0 where
+  pub shelves : List (List StoreTold)
+  pub between : DeskTold
+  pub returns : Returns workers shelves before between
+  pub cause : IsHalt workers before shelves between why
+  pub rest : after ≡ record between { faults = after.faults }
+  pub faults : RefusalCounted between.faults after.faults why
+
 -- a run that was to do this put this out, or was stopped, and the stores are back
 abbrev pub EndsSo : Done → Result (Vec (Vec ℕ Global) Global) RunFault → (before after : DeskTold) → Type 0
 EndsSo done (Ok outputs) before after = Ran done (text_of (lists_of outputs.items)) before after
-EndsSo done (Err (fault.Store worker)) before after = Interrupts done (refusal.Store worker) before after
-EndsSo done (Err (fault.Damaged worker damage)) before after = Interrupts done (refusal.Damaged worker damage) before after
+EndsSo done (Err (fault.Store worker)) before after = Halted (length done.moves) (refusal.Store worker) before after
+EndsSo done (Err (fault.Damaged worker damage)) before after = Halted (length done.moves) (refusal.Damaged worker damage) before after
 EndsSo done (Err (fault.Driver worker f)) before after = ⊥
-EndsSo done (Err fault.Memory) before after = Interrupts done refusal.Memory before after
+EndsSo done (Err fault.Memory) before after = Halted (length done.moves) refusal.Memory before after
 
 -- a run that no store stopped
 abbrev pub IsUnbroken : {T : Type 0} → Result T RunFault → Type 0
@@ -58,4 +77,4 @@ IsUnbroken other = Unit {0}
 -- a run that was to do this gives its text, or was stopped
 abbrev pub RanSo : Done → Result (Vec ℕ Global) Refusal → (before after : DeskTold) → Type 0
 RanSo done (Ok text) before after = Ran done text.items before after
-RanSo done (Err why) before after = Interrupts done why before after
+RanSo done (Err why) before after = Halted (length done.moves) why before after

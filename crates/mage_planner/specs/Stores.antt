@@ -65,6 +65,6 @@ pub record WereDeceived (desk : DeskTold) (shelves : List (List StoreTold)) : Ty
   pub page : ℕ
   pub forged : IsForged (transfers_of made page)
 
--- what is said is right, unless the stores deceived
-abbrev pub IsRight : DeskTold → (shelves : List (List StoreTold)) → (own text : List ℕ) → Type 0
-IsRight desk shelves own text = (text ≡ own) ⊎ WereDeceived desk shelves
+-- what is put out is right, unless the stores deceived
+abbrev pub IsRight : {T : Type 0} → DeskTold → (shelves : List (List StoreTold)) → (own out : T) → Type 0
+IsRight desk shelves own out = (out ≡ own) ⊎ WereDeceived desk shelves

@@ -1,5 +1,8 @@
 -- What the code's work does.
-use Rattle.std.specs.Prelude.{◌≡◌, ◌≤◌, ℕ, List, [], ◌∷◌, length, Bool, Result, Ok, Err}
+use Rattle.std.specs.Prelude.{◌≡◌, ◌≤◌, ℕ, List, [], ◌∷◌, length, Bool, Result, Ok, Err, codes}
+use Rattle.mage_gen.specs.declared.order.Generated.{Generated}
+use Rattle.mage_gen.specs.Generator.{garbler_text, evaluator_text}
+use Rattle.mage_gen.specs.Source.{source_text}
 use Rattle.mage_instr.specs.declared.directive.MemProgram.{MemProgram}
 use Rattle.mage_instr.specs.declared.party.Party.TheVariants as party
 use Rattle.mage_instr.specs.declared.replaced.Limits.{Limits}
@@ -14,13 +17,15 @@ use Rattle.mage_pipe.specs.declared.loaded.Loaded.{Loaded}
 use Rattle.mage_pipe.specs.Loading.{loaded_of}
 use Rattle.mage_pipe.specs.MemoryProgram.{memory_program_of}
 use Rattle.mage_source_runs.specs.Moves.{moves_of}
+use Rattle.mage_words.specs.Words.{GenRequest}
 use Rattle.mage_planner.specs.declared.refusal.Refusal.{Refusal}
 use Rattle.mage_planner.specs.declared.work.Work as code
 use Rattle.mage_planner.specs.declared.work.Work.TheVariants as work
 use Rattle.mage_planner.specs.declared.work.Dealing.{Dealing}
+use Rattle.mage_planner.specs.declared.work.Generating.{Generating}
 use Rattle.mage_planner.specs.declared.work.Running.{Running}
 use Rattle.mage_planner.specs.declared.work.Writing.{Writing}
-use Rattle.mage_planner.specs.Outcome.{Done, NewFile, says, runs, said_of, deals, label_file}
+use Rattle.mage_planner.specs.Outcome.{Done, NewFile, says, says_and_writes, runs, said_of, deals, label_file, ending_file, order_of, generates}
 use Rattle.mage_planner.specs.Steps.{Refuses}
 
 -- what is dealt
@@ -33,11 +38,7 @@ file_by dealing worker = label_file dealing.labels.now dealing.program dealing.s
 
 -- what is written, and then said
 abbrev pub written_by : Writing → Done
-written_by writing = record {
-  said = writing.text.items;
-  files = record { name = writing.name.now; bytes = writing.bytes.items } ∷ [];
-  moves = [];
-}
+written_by writing = says_and_writes writing.text.items (record { name = writing.name.now; bytes = writing.bytes.items } ∷ [])
 
 -- A run does this: its parts are those of a source's memory program, its inputs are as wide as the source asks for, and what is to
 -- be said is what the source means on them.
@@ -54,12 +55,33 @@ pub record IsRunOf (running : Running) (done : Done) : Type 0 where
   pub evaluator : FitWidths (input_widths_of party.Evaluator loaded.program) (lists_of running.evaluator.items)
   pub is : done ≡ runs (said_of loaded (record { garbler = lists_of running.garbler.items; evaluator = lists_of running.evaluator.items })) (moves_of plan)
 
+-- a source and its input texts are those that are asked for
+pub record AreMade (gen : GenRequest) (made : Generated) : Type 0 where
+  pub text : made.text.items ≡ source_text (order_of gen)
+  pub garbler : made.garbler.items ≡ garbler_text (order_of gen)
+  pub evaluator : made.evaluator.items ≡ evaluator_text (order_of gen)
+
+-- the files that are generated
+abbrev pub files_by : Generating → List NewFile
+files_by generating =
+    ending_file generating.out.now (codes ".mage") generating.made.text.items
+    ∷ ending_file generating.out.now (codes ".garbler") generating.made.garbler.items
+    ∷ ending_file generating.out.now (codes ".evaluator") generating.made.evaluator.items
+    ∷ []
+
+-- what is generated is written, and then run: this is done where the run does what is due of it
+pub record IsGenerationOf (generating : Generating) (done : Done) : Type 0 where
+  pub run : Done
+  pub is_run : IsRunOf generating.running run
+  pub is : done ≡ generates (files_by generating) generating.summary.items run
+
 -- the work does this
 abbrev pub IsWorkOf : code.Work → Done → Type 0
 IsWorkOf (work.Say text) done = done ≡ says text.items
 IsWorkOf (work.Deal dealing) done = done ≡ dealt_by dealing
 IsWorkOf (work.Write writing) done = done ≡ written_by writing
 IsWorkOf (work.Run running) done = IsRunOf running done
+IsWorkOf (work.Generate generating) done = IsGenerationOf generating done
 
 -- what is found out does what a command comes to, or the command is refused
 abbrev pub GivesSo : {X : Type 0} → (steady : Bool) → (X → Done → Type 0) → Result X Refusal → Result Done Refusal → Type 0
@@ -78,3 +100,4 @@ CanBeDone (work.Say text) = Unit {0}
 CanBeDone (work.Deal dealing) = length dealing.program.workers ≤ most_workers
 CanBeDone (work.Write writing) = Unit {0}
 CanBeDone (work.Run running) = CanBeRun running
+CanBeDone (work.Generate generating) = CanBeRun generating.running

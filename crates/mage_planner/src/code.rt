@@ -23,13 +23,15 @@ impl Refusal {
             Refusal::Words => Status::Words,
             Refusal::Language { .. } => Status::Language,
             Refusal::Limits { .. } => Status::Limits,
-            Refusal::InputLine { .. } | Refusal::InputTooLong { .. } | Refusal::InputSeed => {
-                Status::InputText
-            }
+            Refusal::InputLine { .. }
+            | Refusal::InputTooLong { .. }
+            | Refusal::InputSeed
+            | Refusal::InputLabels { .. } => Status::InputText,
             Refusal::MemoryProgram { .. } => Status::MemoryProgram,
             Refusal::CheckNo { .. } => Status::CheckNo,
             Refusal::Store { .. } => Status::Store,
             Refusal::Damaged { .. } => Status::Damaged,
+            Refusal::Stream { .. } => Status::Stream,
             Refusal::Desk => Status::Desk,
             Refusal::Memory => Status::Memory,
         }

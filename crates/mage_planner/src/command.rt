@@ -1,20 +1,21 @@
 // What a command does, found out in the order of work.
 ghost use Rattle.std.specs.Prelude.{◌≡◌, ◌≤◌, ℕ, Bool, Result, Some, length, ok_or, true, IfSome, IfOk};
 ghost use Rattle.mage_instr.specs.Opcodes.{most_workers};
-ghost use Rattle.mage_words.specs.Words.{LimitsAreInRange, bytes_of_words};
+ghost use Rattle.mage_words.specs.Words.{LimitsAreInRange, NumbersAreInRange, bytes_of_words};
 ghost use Rattle.mage_words.specs.Answers.{driver_view, request_view};
 ghost use Rattle.mage_planner.specs.Outcome.{Done, Found, asked_of, found_in, if_built, is_built, is_plain, says, outcome_for, outcome_of, outcome_in};
 ghost use Rattle.mage_planner.specs.Steps.{Gives, StepCounted, IsNoDeskFault};
-ghost use Rattle.mage_planner.specs.Work.{CanBeDone, CanBeRun, GivesSo, IsRunOf, IsWorkOf, dealt_by, written_by};
+ghost use Rattle.mage_planner.specs.Work.{CanBeDone, CanBeRun, GivesSo, IsGenerationOf, IsRunOf, IsWorkOf, dealt_by, written_by};
 
 use crate::Refusal;
 use crate::check::check;
 use crate::deal::deal;
+use crate::generated::generated;
 use crate::plan::plan;
 use crate::solo::solo;
 use crate::stats::stats;
 use crate::upgrade::upgrade;
-use crate::work::{Dealing, Running, Work, Writing};
+use crate::work::{Dealing, Generating, Running, Work, Writing};
 use mage_base::Desk;
 use mage_words::{Driver, Request, WordsFault, read_words};
 use std::alloc::Global;
@@ -41,7 +42,7 @@ fn is_built(request: Request<'_>) -> bool
         Request::Plan(_) => true,
         Request::Check(_) => true,
         Request::Upgrade(_) => true,
-        Request::Gen(_) => false,
+        Request::Gen(_) => true,
     }
 }
 
@@ -53,6 +54,8 @@ fn if_built(request: Request<'_>) -> Result<Request<'_>, Refusal>
         (ok_or (if_built (Some (request_view request.entry))) Refusal.Words) }
     ensures in_range { LimitsAreInRange (request_view request.entry)
         → IfOk result (λ request. LimitsAreInRange (request_view request)) }
+    ensures numbers { NumbersAreInRange (request_view request.entry)
+        → IfOk result (λ request. NumbersAreInRange (request_view request)) }
 {
     if is_built(request) {
         Ok(request)
@@ -68,6 +71,7 @@ fn asked(alloc: Global, words: &[String]) -> Result<Request<'_>, Refusal>
     ensures asked { Gives true request_view result
         (ok_or (asked_of (bytes_of_words words.now)) Refusal.Words) }
     ensures in_range { IfOk result (λ request. LimitsAreInRange (request_view request)) }
+    ensures numbers { IfOk result (λ request. NumbersAreInRange (request_view request)) }
 {
     match read_words(alloc, words) {
         Ok(request) => if_built(request),
@@ -83,6 +87,7 @@ fn answer<'a, D: Desk>(
     desk: &mut D,
 ) -> Result<Work<'a>, Refusal>
     requires limits { LimitsAreInRange (request_view request) }
+    requires numbers { NumbersAreInRange (request_view request) }
     ensures told { IfSome (D.tells desk.old).files (λ files. GivesSo (D.tells desk.old).steady
         IsWorkOf result
         (outcome_for (found_in files (request_view request.entry)) (request_view request.entry))) }
@@ -100,7 +105,7 @@ fn answer<'a, D: Desk>(
         Request::Plan(request) => written(plan(alloc, request, desk)),
         Request::Check(request) => said(check(alloc, request, desk)),
         Request::Upgrade(request) => written(upgrade(alloc, request, desk)),
-        Request::Gen(_) => Err(Refusal::Words),
+        Request::Gen(request) => to_generate(generated(alloc, request)),
     }
 }
 
@@ -157,6 +162,21 @@ fn to_run<'a>(running: Result<Running, Refusal>) -> Result<Work<'a>, Refusal>
 {
     match running {
         Ok(running) => Ok(Work::Run(running)),
+        Err(refusal) => Err(refusal),
+    }
+}
+
+// A source is to be written, and its memory program to be run.
+fn to_generate<'a>(generating: Result<Generating<'a>, Refusal>) -> Result<Work<'a>, Refusal>
+    requires { IfOk generating (λ generating. CanBeRun generating.running) }
+    ensures gives { (steady : Bool) (outcome : Result Done Refusal)
+        → GivesSo true IsGenerationOf generating.entry outcome → GivesSo steady IsWorkOf result outcome }
+    ensures counts { (before now : ℕ) → StepCounted before now generating.entry
+        → StepCounted before now result }
+    ensures can { IfOk result CanBeDone }
+{
+    match generating {
+        Ok(generating) => Ok(Work::Generate(generating)),
         Err(refusal) => Err(refusal),
     }
 }

@@ -45,8 +45,8 @@ fn fetch_input<D: Desk>(
     }
 }
 
-// The numbers of a party's input text.
-fn numbers(
+/// The numbers of a party's input text.
+pub fn numbers(
     alloc: Global,
     text: &[u8],
     program: &Program,

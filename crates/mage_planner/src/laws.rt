@@ -1,5 +1,6 @@
 // What holds of the files that the commands write.
 ghost use Rattle.mage_planner.specs.Checking.{PlansAreCarried};
+ghost use Rattle.mage_planner.specs.Finding.{GeneratedFilesAreFound};
 ghost use Rattle.mage_planner.specs.Upgrading.{EarlierFilesComeToTodays, UpgradesKeepCarried};
 
 /// Where `upgrade` isn't refused, it reads a memory program from a file of the first version, writes one file and says nothing;
@@ -19,4 +20,10 @@ pub fn earlier_files_come_to_todays()
 /// Of the file that `plan` writes of a source, `check` says that it carries this source. The limits are in their ranges.
 pub fn plans_are_carried()
     ensures { PlansAreCarried }
+{}
+
+/// On the files that `gen` leaves, `solo` that names them finds just the source and the input texts that were generated, and `stats` the
+/// source. The numbers that `gen` is asked for are in their ranges.
+pub fn generated_files_are_found()
+    ensures { GeneratedFilesAreFound }
 {}

@@ -6,6 +6,8 @@ mod code;
 mod command;
 mod deal;
 mod files;
+mod generated;
+mod generating;
 mod inputs;
 mod labels;
 mod laws;
@@ -20,14 +22,18 @@ mod solo;
 mod sources;
 mod stats;
 mod status;
+mod stream_line;
 mod top;
 mod upgrade;
 mod warning;
 mod work;
 
-pub use laws::{earlier_files_come_to_todays, plans_are_carried, upgrades_keep_carried};
+pub use laws::{
+    earlier_files_come_to_todays, generated_files_are_found, plans_are_carried,
+    upgrades_keep_carried,
+};
 pub use mage_texts::{InputFault, read_inputs};
-pub use refusal::{ProgramFault, Refusal};
+pub use refusal::{ProgramFault, Refusal, StreamFault};
 pub use status::Status;
 pub use top::planner;
 pub use warning::refuse;

@@ -7,6 +7,7 @@ ghost use Rattle.mage_planner.specs.Lines.{kind_name, party_name, line_of};
 
 use crate::Refusal;
 use crate::program_line::{check_line, program_line};
+use crate::stream_line::{labels_line, stream_line};
 use mage_base::{Damage, Memory};
 use mage_instr::{Party, Tight};
 use mage_lex::LangKind;
@@ -150,6 +151,8 @@ pub fn line_of(alloc: Global, refusal: Refusal) -> Result<CowStr<'static, Global
         Refusal::CheckNo { worker, directive } => check_line(alloc, worker, directive)?,
         Refusal::Store { worker } => store_line(alloc, worker)?,
         Refusal::Damaged { worker, damage } => damage_line(alloc, worker, damage)?,
+        Refusal::InputLabels { worker } => labels_line(alloc, worker)?,
+        Refusal::Stream { worker, fault } => stream_line(alloc, worker, fault)?,
     };
     Ok(CowStr::Owned(written))
 }

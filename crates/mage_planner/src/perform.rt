@@ -8,14 +8,15 @@ ghost use Rattle.mage_planner.specs.Writing.{Finished, Performs};
 
 use crate::Refusal;
 use crate::files::write_file;
+use crate::generating::generate;
 use crate::labels::deal_labels;
 use crate::running::run;
 use crate::work::{Running, Work, Writing};
 use mage_base::{Desk, Failed};
 use std::alloc::Global;
 
-// Says a text in one call.
-fn say<D: Desk>(desk: &mut D, text: &[u8]) -> Result<(), Refusal>
+/// Says a text in one call.
+pub fn say<D: Desk>(desk: &mut D, text: &[u8]) -> Result<(), Refusal>
     ensures performs { Finished text.now [] result (D.tells desk.old) (D.tells desk.new) }
     ensures steady { IsTrue (D.tells desk.old).steady
         → length text.now ≤ (D.tells desk.old).room → IsNoDeskFault result }
@@ -54,7 +55,7 @@ fn run_and_say<D: Desk>(alloc: Global, desk: &mut D, running: Running) -> Result
     say(desk, &text)
 }
 
-/// Does what a command comes to: says its text, writes its files, or runs its memory program.
+/// Does what a command comes to: says its text, writes its files, runs its memory program, or all of these.
 pub fn perform<D: Desk>(alloc: Global, desk: &mut D, work: Work<'_>) -> Result<(), Refusal>
     requires { CanBeDone work }
     ensures performs { (done : Done) → IsWorkOf work.entry done
@@ -69,5 +70,6 @@ pub fn perform<D: Desk>(alloc: Global, desk: &mut D, work: Work<'_>) -> Result<(
         Work::Deal(dealing) => deal_labels(alloc, desk, &dealing),
         Work::Write(writing) => write_and_say(alloc, desk, &writing),
         Work::Run(running) => run_and_say(alloc, desk, running),
+        Work::Generate(generating) => generate(alloc, desk, generating),
     }
 }

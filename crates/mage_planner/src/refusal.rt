@@ -31,6 +31,17 @@ pub enum ProgramFault {
     Links { worker: u16, directive: u32 },
 }
 
+/// What is wrong with the stream of a worker, with its offset from 0.
+#[derive(Clone, Copy, Debug, PartialEq, Eq)]
+pub enum StreamFault {
+    /// The stream ends there, and more is due.
+    Short { at: u64 },
+    /// Bytes stand there behind all that is due.
+    Long { at: u64 },
+    /// The byte there is no colour.
+    Colour { at: u64 },
+}
+
 /// Why a command isn't done.
 #[derive(Clone, Copy, Debug, PartialEq, Eq)]
 pub enum Refusal {
@@ -59,6 +70,10 @@ pub enum Refusal {
     },
     /// The file of the seed hasn't just 32 bytes.
     InputSeed,
+    /// The label file of this worker hasn't just 16 bytes for each wire of its inputs of the evaluator.
+    InputLabels {
+        worker: u16,
+    },
     /// The file of the memory program isn't one that can be run.
     MemoryProgram {
         fault: ProgramFault,
@@ -77,6 +92,11 @@ pub enum Refusal {
     Damaged {
         worker: u16,
         damage: Damage,
+    },
+    /// The stream of this worker isn't one that its program can be evaluated over.
+    Stream {
+        worker: u16,
+        fault: StreamFault,
     },
     /// The desk failed: a file that isn't there, or can't be read, or an answer that can't be said.
     Desk,

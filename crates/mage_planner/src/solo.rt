@@ -43,8 +43,8 @@ fn evaluator_of(driver: Driver<'_>) -> Option<&str>
     }
 }
 
-// The parts of a memory program that the passes made, which has no fault.
-fn parts_of(alloc: Global, program: MemProgram) -> Result<Vec<Part>, Refusal>
+/// The parts of a memory program that the passes made, which has no fault.
+pub fn parts_of(alloc: Global, program: MemProgram) -> Result<Vec<Part>, Refusal>
     requires accepted { IsAccepted program }
     ensures quiet { (faults : ℕ) → StepCounted faults faults result }
     ensures no_fault { IsNoDeskFault result }

@@ -67,9 +67,10 @@ fn fetch_source<D: Desk>(alloc: Global, desk: &mut D, name: &str) -> Result<Vec<
     }
 }
 
-// The tree of a text, and the program that it unrolls to.
-fn loaded(alloc: Global, text: &[u8]) -> Result<Loaded, Refusal>
+/// The tree of a text, and the program that it unrolls to.
+pub fn loaded(alloc: Global, text: &[u8]) -> Result<Loaded, Refusal>
     ensures loaded { Gives true (λ loaded. loaded) result (or_language (loaded_of text.now)) }
+    ensures read { IfOk result (λ loaded. loaded_of text.now ≡ Ok loaded) }
     ensures sound { IfOk result (λ loaded. All IsSound loaded.program.workers) }
     ensures few { IfOk result (λ loaded. length loaded.program.workers ≤ most_workers) }
     ensures quiet { (faults : ℕ) → StepCounted faults faults result }

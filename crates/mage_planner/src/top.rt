@@ -8,6 +8,7 @@ ghost use Rattle.mage_source_runs.specs.Moves.{PlansMoveAsCounted};
 ghost use Rattle.mage_written.specs.Written.{PlansArePlans};
 ghost use Rattle.mage_planner.specs.declared.refusal.Refusal.TheVariants as refusals;
 ghost use Rattle.mage_planner.specs.Checking.{PlansAreCarried};
+ghost use Rattle.mage_planner.specs.Finding.{GeneratedFilesAreFound};
 ghost use Rattle.mage_planner.specs.Lines.{line_of};
 ghost use Rattle.mage_planner.specs.Outcome.{Found, asked_of, outcome_of, outcome_in};
 ghost use Rattle.mage_planner.specs.Steps.{StepCounted, IsNoDeskFault};
@@ -55,26 +56,29 @@ fn run<D: Desk>(alloc: Global, words: &[String], desk: &mut D) -> Result<(), Ref
 
 /// Does what `mage_plan` does with these words (`mage_words::read_words`). `solo` reads the source and the input
 /// texts that they name from the desk, makes the memory program within the limits, asks the desk for a store for each worker, runs
-/// the memory program in plain over them on one thread, gives them back, and says what was put out. `stats` says what a plan for the source costs. `plan` writes this plan, a memory program, and
-/// says what it costs. `check` says that a memory program carries the source. `upgrade` writes a memory program of the file's
-/// first version in the second. `deal` reads the source, the evaluator's input text and a seed, and writes the labels that are
-/// dealt to each worker's evaluator, a file for each.
+/// the memory program in plain over them on one thread, gives them back, and says what was put out. `stats` says what a plan for
+/// the source costs. `plan` writes this plan, a memory program, and says what it costs. `check` says that a memory program carries the
+/// source. `upgrade` writes a memory program of the file's first version in the second. `gen` writes a source of a given size and its
+/// input texts, does with them what `solo` does, and says what `stats` says of the source and then what `solo` says. `deal` reads the
+/// source, the evaluator's input text and a seed, and writes the labels that are dealt to each worker's evaluator, a file for each.
 ///
 /// The work goes in this order, and the first thing that is wrong decides the status: words (`Words`), source fetched
 /// (`Desk`), language (`Language`), limits (`Limits`; `deal` and `check` make no plan), for `check` and `upgrade` memory program
 /// fetched, read and verified (`Desk`, `MemoryProgram`), for `check` compared (`CheckNo`), for `solo` garbler text fetched and read
 /// (`Desk`, `InputText`), for `solo` and `deal` evaluator text likewise, for `deal` the seed likewise; for `solo` stores asked for
 /// (`Desk`), the run (`Store`, `Damaged`), stores given back; then files are
-/// written and what is to be said is said (`Desk`). `Memory` may come at any step.
+/// written and what is to be said is said (`Desk`). `gen` makes its source first, and writes its files before it asks for stores.
+/// `Memory` may come at any step.
 ///
 /// With any status but `Ok` one line is warned that says what is wrong and where. A warning that fails changes no
 /// status.
 pub fn planner<D: Desk>(alloc: Global, words: &[String], desk: &mut D) -> Status
-    // Where the desk tells its files, they and the words decide; with Ok, just the outputs or the summary is said, and
-    // nothing is warned, and just the files of the command are written. With any other answer every other file stays.
-    // What `solo` says is what the source means, and the store of each worker was read and written just as often as the memory
-    // program has issues of reads and of writes. Where the desk's stores don't tell their pages, another text may be said, but only
-    // if one of them answered a read with other bytes than were last written, of the same SHA-256 digest.
+    // Where the desk tells its files, they and the words decide; with Ok, just the outputs or the summary is said, for `gen` both,
+    // and nothing is warned, and just the files of the command are written. With any other answer every other file stays.
+    // What `solo` says is what the source means, and so is what `gen` says behind the summary; the store of each worker was read
+    // and written just as often as the memory program has issues of reads and of writes. Where the desk's stores don't tell their
+    // pages, another text may be said, but only if one of them answered a read with other bytes than were last written, of the
+    // same SHA-256 digest.
     // Store comes only where the count of faults of the stores of the worker that the line names rose; Damaged only where the
     // desk's stores don't tell their pages, and that worker's answered a read of the page with another digest than it was written
     // with. Every store that was handed out is given back, with each answer.
@@ -104,6 +108,9 @@ pub fn planner<D: Desk>(alloc: Global, words: &[String], desk: &mut D) -> Status
     // was stored under its own number becomes the one that `plan` writes now.
     ensures upgrades { UpgradesKeepCarried }
     ensures earlier { EarlierFilesComeToTodays }
+
+    // What `gen` leaves is what `solo` and `stats` find that name its files.
+    ensures generated { GeneratedFilesAreFound }
 
     // Words comes just where the words ask for nothing that is built; only want of memory may come in its place.
     ensures words { (result ≡ Status.Words → asked_of (bytes_of_words words.now) ≡ None)

@@ -1,4 +1,5 @@
 // What a command does that isn't refused.
+use mage_gen::Generated;
 use mage_instr::Program;
 use mage_verify::Part;
 
@@ -28,6 +29,18 @@ pub struct Running {
     pub evaluator: Vec<Vec<u128>>,
 }
 
+/// Three files that are written, and the memory program of the source among them, which is then run.
+#[derive(Drop)]
+pub struct Generating<'a> {
+    /// What the names of the files begin with.
+    pub out: &'a str,
+    /// What the files hold.
+    pub made: Generated,
+    /// The text that is said in front of what the run puts out.
+    pub summary: Vec<u8>,
+    pub running: Running,
+}
+
 /// What a command does that isn't refused.
 #[derive(Drop)]
 pub enum Work<'a> {
@@ -39,4 +52,6 @@ pub enum Work<'a> {
     Write(Writing<'a>),
     /// To run a memory program over stores of the desk, and to say what it puts out.
     Run(Running),
+    /// To write a source and its inputs, to run its memory program, and to say what that costs and what it puts out.
+    Generate(Generating<'a>),
 }

@@ -1,9 +1,10 @@
-use Rattle.std.proofs.Common.{refl}
+use Rattle.std.proofs.Common.{true}
 use Rattle.std.proofs.lemmas.Option.{IfSome_then}
-use Rattle.mage_words.specs.Answers.{solo_view}
+use Rattle.mage_words.specs.Answers.{gen_view, solo_view}
 use Rattle.mage_words.specs.Words.{Solo}
-use Rattle.mage_planner.specs.Outcome.{found_in, nothing_found, solo_outcome}
+use Rattle.mage_planner.specs.Outcome.{found_in, gen_outcome, nothing_found, solo_outcome}
 use Rattle.mage_planner.specs.Work.{GivesSo, IsRunOf}
+use Rattle.mage_planner.proofs.GeneratedLemmas.{told_any}
 use Rattle.mage_planner.proofs.command.answer.Goals as goal
 
 pub returns-in-Solo-clause-cause : goal.returns-in-Solo-clause-cause
@@ -30,5 +31,13 @@ returns-in-Solo-clause-told g c =
     {P = λ files. GivesSo (g.D.Desk.tells c.args.desk.now).steady IsRunOf c.solo.result (solo_outcome (found_in files (Solo (solo_view c.in-Solo.request))) (solo_view c.in-Solo.request))}
     c.solo.ensures.told (λ files h. c.to_run.ensures.gives _ _ h))
 
+pub returns-in-Gen-clause-cause : goal.returns-in-Gen-clause-cause
+returns-in-Gen-clause-cause g c = c.to_generate.ensures.counts _ _ (c.generated.ensures.quiet _)
+
 pub returns-in-Gen-clause-some : goal.returns-in-Gen-clause-some
-returns-in-Gen-clause-some g c = rw c.in-Gen.is (nothing_found, refl)
+returns-in-Gen-clause-some g c = rw c.in-Gen.is (nothing_found, c.to_generate.ensures.gives true (gen_outcome (gen_view c.in-Gen.request)) c.generated.ensures.gives)
+
+pub returns-in-Gen-clause-told : goal.returns-in-Gen-clause-told
+returns-in-Gen-clause-told g c =
+    rw c.in-Gen.is (told_any (g.D.Desk.tells c.args.desk.now).files
+    (c.to_generate.ensures.gives (g.D.Desk.tells c.args.desk.now).steady (gen_outcome (gen_view c.in-Gen.request)) c.generated.ensures.gives))

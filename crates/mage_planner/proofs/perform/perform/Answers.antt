@@ -1,5 +1,5 @@
-use Rattle.std.proofs.Common.{[], refl}
-use Rattle.mage_planner.specs.Outcome.{says}
+use Rattle.std.proofs.Common.{[], refl, sym, ap, ◌∙◌}
+use Rattle.mage_planner.specs.Outcome.{Done, says}
 use Rattle.mage_planner.specs.Work.{dealt_by, written_by}
 use Rattle.mage_planner.proofs.PerformLemmas.{work_without_stores}
 use Rattle.mage_planner.proofs.RanLemmas.{all_sound, some_moves, still_sound}
@@ -7,15 +7,15 @@ use Rattle.mage_planner.proofs.perform.perform.Goals as goal
 
 pub returns-in-Say-clause-performs : goal.returns-in-Say-clause-performs
 returns-in-Say-clause-performs g c = λ done is.
-    work_without_stores done (says c.in-Say.text.items) c.say.result _ _ refl (rw c.in-Say.is at is) (rw c.deref.ensures.value at c.say.ensures.performs)
+    work_without_stores done (says c.in-Say.text.items) c.say.result _ _ refl refl (rw c.in-Say.is at is) (rw c.deref.ensures.value at c.say.ensures.performs)
 
 pub returns-in-Deal-clause-performs : goal.returns-in-Deal-clause-performs
 returns-in-Deal-clause-performs g c = λ done is.
-    work_without_stores done (dealt_by c.in-Deal.dealing) c.deal_labels.result _ _ refl (rw c.in-Deal.is at is) c.deal_labels.ensures.performs
+    work_without_stores done (dealt_by c.in-Deal.dealing) c.deal_labels.result _ _ refl refl (rw c.in-Deal.is at is) c.deal_labels.ensures.performs
 
 pub returns-in-Write-clause-performs : goal.returns-in-Write-clause-performs
 returns-in-Write-clause-performs g c = λ done is.
-    work_without_stores done (written_by c.in-Write.writing) c.write_and_say.result _ _ refl (rw c.in-Write.is at is) c.write_and_say.ensures.performs
+    work_without_stores done (written_by c.in-Write.writing) c.write_and_say.result _ _ refl refl (rw c.in-Write.is at is) c.write_and_say.ensures.performs
 
 pub returns-in-Say-clause-sound : goal.returns-in-Say-clause-sound
 returns-in-Say-clause-sound g c = λ none. still_sound c.deref.result.now [] c.say.result (g.D.Desk.tells c.args.desk.now) (g.D.Desk.tells c.args.desk.now) (g.D.Desk.tells c.say.new.desk) (all_sound (g.D.Desk.tells c.args.desk.now)) c.say.ensures.performs
@@ -30,3 +30,9 @@ pub returns-in-Run-clause-steady : goal.returns-in-Run-clause-steady
 returns-in-Run-clause-steady g c = λ done is steady tells has.
     let run = rw c.in-Run.is at is in
     c.run_and_say.ensures.steady done run steady (tells (some_moves c.in-Run.running done (rw c.in-Run.is at c.requires) run)) has
+
+pub returns-in-Generate-clause-steady : goal.returns-in-Generate-clause-steady
+returns-in-Generate-clause-steady g c = λ done is steady tells has.
+    let gen = rw c.in-Generate.is at is in
+    let can = rw c.in-Generate.is at c.requires in
+    c.generate.ensures.steady done gen steady (tells (λ none. some_moves c.in-Generate.generating.running gen.run can gen.is_run (sym (ap (λ (d : Done). d.moves) gen.is) ∙ none))) has

@@ -1,12 +1,12 @@
 use Rattle.std.proofs.Common.{[]}
 use Rattle.std.proofs.lemmas.Result.{err_from_is_err_and}
-use Rattle.mage_planner.proofs.RanLemmas.{no_files, ran_said, ran_steady, still_sound, text_fits}
+use Rattle.mage_planner.proofs.RanLemmas.{halted, no_files, ran_said, ran_steady, still_sound, text_fits}
 use Rattle.mage_planner.proofs.perform.run_and_say.Goals as goal
 
 pub returns-in_err-text-clause-performs : goal.returns-in_err-text-clause-performs
 returns-in_err-text-clause-performs g c = λ done is.
     let p = err_from_is_err_and c.from_residual.result c.from_residual.ensures.1 in
-    rw (p.1, p.2) (c.in_err-text.ensures.ran done is)
+    rw (p.1, p.2) (halted done c.in_err-text.field-0.0 _ _ (c.in_err-text.ensures.ran done is))
 
 pub returns-clause-performs : goal.returns-clause-performs
 returns-clause-performs g c = λ done is.

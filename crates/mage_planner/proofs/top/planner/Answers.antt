@@ -7,6 +7,7 @@ use Rattle.mage_source_runs.proofs.Counting.{plans_move_as_counted}
 use Rattle.mage_written.proofs.Files.{plans_are_plans}
 use Rattle.mage_planner.proofs.CarriedLemmas.{plans_are_carried}
 use Rattle.mage_planner.proofs.UpgradeLemmas.{upgrades_keep_carried, earlier_files_come_to_todays}
+use Rattle.mage_planner.proofs.GeneratedFiles.{generated_files_are_found}
 use Rattle.mage_planner.proofs.AnswerLemmas.{answered, answered_files, complete_files, steady_files}
 use Rattle.mage_planner.proofs.WordsLemmas.{words_done, words_refused}
 use Rattle.mage_planner.proofs.top.planner.Goals as goal
@@ -85,3 +86,9 @@ returns-in-Ok-clause-earlier g c = earlier_files_come_to_todays
 
 pub returns-in-Err-clause-earlier : goal.returns-in-Err-clause-earlier
 returns-in-Err-clause-earlier g c = earlier_files_come_to_todays
+
+pub returns-in-Ok-clause-generated : goal.returns-in-Ok-clause-generated
+returns-in-Ok-clause-generated g c = generated_files_are_found
+
+pub returns-in-Err-clause-generated : goal.returns-in-Err-clause-generated
+returns-in-Err-clause-generated g c = generated_files_are_found
