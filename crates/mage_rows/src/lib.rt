@@ -9,6 +9,8 @@ mod deal;
 #[cfg(test)]
 mod desk;
 #[cfg(test)]
+mod generated;
+#[cfg(test)]
 mod language;
 #[cfg(test)]
 mod programs;
