@@ -2,7 +2,6 @@
 #![tactic(auto)]
 
 mod one;
-mod programs;
 #[cfg(test)]
 mod tests;
 mod two;

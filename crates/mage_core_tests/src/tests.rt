@@ -2,98 +2,16 @@
 use crate::{Worker, run_alone, run_pair};
 use mage_base::{Damage, MemStore};
 use mage_core::RunFault;
-use mage_instr::{Directive, Job, Op, Spot};
 use mage_log_store::{Lie, LogStore};
+use mage_small_programs::{adding, swapping, swapping_twice};
 use sha2::{Digest, Sha256};
 use std::alloc::Global;
 use std::test::Fail;
 
-const NO_SPOT: Spot = Spot {
-    frame: 0,
-    offset: 0,
-};
-
-const SECOND: Spot = Spot {
-    frame: 1,
-    offset: 0,
-};
-
-// An instruction of 64 bits on the first wires of frames.
-macro_rules! job {
-    ($op:ident $imm:literal $out:literal $arg:literal) => {
-        Directive::Do(Job {
-            op: Op::$op,
-            width: 64,
-            imm: $imm,
-            out: Spot {
-                frame: $out,
-                offset: 0,
-            },
-            args: [
-                Spot {
-                    frame: $arg,
-                    offset: 0,
-                },
-                NO_SPOT,
-                NO_SPOT,
-            ],
-        })
-    };
-}
-
-macro_rules! fresh {
-    ($frame:literal $page:literal) => {
-        Directive::Fresh {
-            frame: $frame,
-            page: $page,
-        }
-    };
-}
-
-// Three values in two frames: the second is written, read again and put out.
-const SWAPPED: [Directive; 12] = [
-    fresh!(0 0),
-    job!(Input 0 0 0),
-    fresh!(1 1),
-    job!(Input 0 1 0),
-    Directive::IssueOut {
-        slot: 0,
-        frame: 1,
-        page: 0,
-    },
-    fresh!(1 2),
-    job!(Input 0 1 0),
-    job!(Output 0 0 0),
-    Directive::FinishOut { slot: 0 },
-    Directive::IssueIn { slot: 0, page: 0 },
-    Directive::FinishIn { slot: 0, frame: 0 },
-    job!(Output 0 0 0),
-];
-
-// A value that is sent to the first worker.
-const SENDER: [Directive; 3] = [fresh!(0 0), job!(Input 0 0 0), job!(Send 0 0 0)];
-
-// A value, another one that the second worker sends, and their sum, which is put out.
-const ADDER: [Directive; 7] = [
-    fresh!(0 0),
-    job!(Input 0 0 0),
-    fresh!(1 1),
-    job!(Recv 1 1 0),
-    Directive::Do(Job {
-        op: Op::Add,
-        width: 64,
-        imm: 0,
-        out: NO_SPOT,
-        args: [NO_SPOT, SECOND, NO_SPOT],
-    }),
-    job!(Output 0 0 0),
-    job!(Output 0 0 1),
-];
-
 #[test]
 fn a_page_goes_out_and_comes_in(rt: HostRuntime) -> Result<(), Fail> {
     let store = MemStore::make(rt.alloc(), 1, 64, &[])?;
-    let went = run_alone(rt.alloc(), &SWAPPED, &[7, 8, 9], store)?;
+    let went = run_alone(rt.alloc(), swapping(rt.alloc())?, &[7, 8, 9], store)?;
     assert_eq!(rt; went.fault, None);
     assert_eq!(rt; went.outputs.as_slice(), [7, 8].as_slice());
     let counts = went.store.counts();
@@ -107,7 +25,7 @@ fn a_page_goes_out_and_comes_in(rt: HostRuntime) -> Result<(), Fail> {
 #[test]
 fn a_store_that_fails_stops_the_run(rt: HostRuntime) -> Result<(), Fail> {
     let store = MemStore::make(rt.alloc(), 1, 64, &[1])?;
-    let went = run_alone(rt.alloc(), &SWAPPED, &[7, 8, 9], store)?;
+    let went = run_alone(rt.alloc(), swapping(rt.alloc())?, &[7, 8, 9], store)?;
     assert_eq!(rt; went.fault, Some(RunFault::Store { worker: 0 }));
     assert_eq!(rt; went.outputs.as_slice(), [7].as_slice());
     assert_eq!(rt; went.store.counts().faults, 1);
@@ -117,16 +35,14 @@ fn a_store_that_fails_stops_the_run(rt: HostRuntime) -> Result<(), Fail> {
 #[test]
 fn one_worker_sends_to_the_other(rt: HostRuntime) -> Result<(), Fail> {
     let first = Worker {
-        directives: &ADDER,
         values: &[5],
         fails: &[],
     };
     let second = Worker {
-        directives: &SENDER,
         values: &[7],
         fails: &[],
     };
-    let went = run_pair(rt.alloc(), first, second)?;
+    let went = run_pair(rt.alloc(), adding(rt.alloc())?, first, second)?;
     assert_eq!(rt; went.fault, None);
     assert_eq!(rt; went.first.as_slice(), [12, 7].as_slice());
     assert_eq!(rt; went.second.is_empty(), true);
@@ -137,7 +53,6 @@ fn one_worker_sends_to_the_other(rt: HostRuntime) -> Result<(), Fail> {
 #[test]
 fn the_fault_names_its_worker(rt: HostRuntime) -> Result<(), Fail> {
     let worker = Worker {
-        directives: &SWAPPED,
         values: &[7, 8, 9],
         fails: &[],
     };
@@ -145,7 +60,7 @@ fn the_fault_names_its_worker(rt: HostRuntime) -> Result<(), Fail> {
         fails: &[0],
         ..worker
     };
-    let went = run_pair(rt.alloc(), worker, failing)?;
+    let went = run_pair(rt.alloc(), swapping_twice(rt.alloc())?, worker, failing)?;
     assert_eq!(rt; went.fault, Some(RunFault::Store { worker: 1 }));
     assert_eq!(rt; went.first.as_slice(), [7, 8].as_slice());
     assert_eq!(rt; went.second.as_slice(), [7].as_slice());
@@ -160,7 +75,7 @@ fn lied_to(alloc: Global, mask: u8) -> Result<(Option<RunFault>, Vec<u128>), Fai
         mask,
     };
     let store = LogStore::make(alloc, 1, 64, 2, &[lie])?;
-    let went = run_alone(alloc, &SWAPPED, &[7, 8, 9], store)?;
+    let went = run_alone(alloc, swapping(alloc)?, &[7, 8, 9], store)?;
     Ok((went.fault, went.outputs))
 }
 

@@ -1,13 +1,12 @@
 // Two workers, whose stores have one page each.
-ghost use Rattle.std.specs.Prelude.{◌≡◌, ◌<◌, length, IfOk};
+ghost use Rattle.std.specs.Prelude.{◌≡◌, length, IfOk};
 ghost use Rattle.std.specs.List.{All};
-ghost use Rattle.mage_verify.specs.Literals.{AreDirectives};
+ghost use Rattle.mage_directives.specs.Directives.{IsMemProgram};
 
 use crate::one::driver_of;
-use crate::programs::two_workers;
 use mage_base::{MemStore, Memory};
 use mage_core::{Ended, RunFault, solo};
-use mage_instr::Directive;
+use mage_instr::MemProgram;
 use mage_plain::PlainDriver;
 use mage_verify::verify;
 use std::alloc::Global;
@@ -20,10 +19,9 @@ pub struct Pair {
     pub second: Vec<u128>,
 }
 
-/// One of two workers: its directives, the garbler's values, and which calls of its store fail.
+/// One of two workers: the garbler's values, and which calls of its store fail.
 #[derive(Clone, Copy)]
 pub struct Worker<'a> {
-    pub directives: &'a [Directive],
     pub values: &'a [u128],
     pub fails: &'a [u64],
 }
@@ -38,14 +36,17 @@ fn shelf(alloc: Global, fails: &[u64]) -> Result<Vec<MemStore>, Memory>
     Ok(shelf)
 }
 
-/// Runs two workers in plain, where the garbler has these values for each. `Memory` too where the directives have a fault.
-pub fn run_pair(alloc: Global, first: Worker<'_>, second: Worker<'_>) -> Result<Pair, Memory>
-    requires count { (length first.directives.now < 100)
-        × (length second.directives.now < 100) }
-    requires first { AreDirectives 2 0 first.directives.now }
-    requires second { AreDirectives 2 1 second.directives.now }
+/// Runs two workers in plain, where the garbler has these values for each. `Memory` too where the program has a fault.
+pub fn run_pair(
+    alloc: Global,
+    plan: MemProgram,
+    first: Worker<'_>,
+    second: Worker<'_>,
+) -> Result<Pair, Memory>
+    requires plan { IsMemProgram plan }
+    requires wires { plan.limits.page ≡ 64 }
+    requires workers { length plan.workers ≡ 2 }
 {
-    let plan = two_workers(alloc, first.directives, second.directives)?;
     let Ok(verified) = verify(alloc, plan) else {
         return Err(Memory);
     };

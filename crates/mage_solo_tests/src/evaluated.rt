@@ -4,11 +4,11 @@ ghost use Rattle.mage_verify.specs.Literals.{AreDirectives};
 
 use crate::garbled::shelf;
 use crate::one::first_of;
-use crate::programs::one_worker;
 use mage_base::{MemSource, MemStore, Memory};
 use mage_core::RunFault;
 use mage_instr::Directive;
 use mage_label::Label;
+use mage_small_programs::one_worker;
 use mage_solo::{Evaluated, run_evaluating};
 use mage_verify::verify;
 use std::alloc::Global;
@@ -30,7 +30,7 @@ pub fn evaluate_alone(
     requires count { length directives.now < 100 }
     requires fields { AreDirectives 1 0 directives.now }
 {
-    let plan = one_worker(alloc, directives)?;
+    let plan = one_worker(alloc, 2, directives)?;
     let Ok(verified) = verify(alloc, plan) else {
         return Err(Memory);
     };

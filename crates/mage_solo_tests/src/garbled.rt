@@ -4,11 +4,11 @@ ghost use Rattle.std.specs.List.{All};
 ghost use Rattle.mage_verify.specs.Literals.{AreDirectives};
 
 use crate::one::{first_of, only};
-use crate::programs::{one_worker, two_workers};
 use crate::two::{Given, both};
 use mage_base::{MemSink, MemStore, Memory};
 use mage_core::RunFault;
 use mage_instr::Directive;
+use mage_small_programs::{one_worker, two_workers};
 use mage_solo::{Garbled, run_garbling};
 use mage_verify::verify;
 use std::alloc::Global;
@@ -55,7 +55,7 @@ pub fn garble_alone(
     requires count { length directives.now < 100 }
     requires fields { AreDirectives 1 0 directives.now }
 {
-    let plan = one_worker(alloc, directives)?;
+    let plan = one_worker(alloc, 2, directives)?;
     let Ok(verified) = verify(alloc, plan) else {
         return Err(Memory);
     };

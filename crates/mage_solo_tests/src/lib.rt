@@ -8,7 +8,6 @@ mod garbled;
 #[cfg(test)]
 mod garbled_tests;
 mod one;
-mod programs;
 #[cfg(test)]
 mod tests;
 mod two;
@@ -16,4 +15,4 @@ mod two;
 pub use evaluated::{Decoded, evaluate_alone};
 pub use garbled::{Lone, Pair, Sinks, garble_alone, garble_pair};
 pub use one::{Alone, run_alone};
-pub use two::{Given, Worker, run_pair};
+pub use two::{Fails, Given, run_pair};

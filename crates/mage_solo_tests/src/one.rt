@@ -1,11 +1,10 @@
 // One worker.
-ghost use Rattle.std.specs.Prelude.{◌≡◌, ◌<◌, length, IfOk};
-ghost use Rattle.mage_verify.specs.Literals.{AreDirectives};
+ghost use Rattle.std.specs.Prelude.{◌≡◌, length, IfOk};
+ghost use Rattle.mage_directives.specs.Directives.{IsMemProgram};
 
-use crate::programs::one_worker;
 use mage_base::{Memory, Store};
 use mage_core::RunFault;
-use mage_instr::Directive;
+use mage_instr::MemProgram;
 use mage_solo::{Ran, run_plain};
 use mage_verify::verify;
 use std::alloc::Global;
@@ -36,20 +35,20 @@ where
     list.pop().ok_or(Memory)
 }
 
-/// Runs one worker in plain, on these values of both parties, over a store of pages of 64 bytes. `Memory` too where the directives have a
+/// Runs one worker in plain, on these values of both parties, over a store of pages of 64 bytes. `Memory` too where the program has a
 /// fault.
 pub fn run_alone<S: Store + Drop>(
     alloc: Global,
-    directives: &[Directive],
+    plan: MemProgram,
     garbler: &[u128],
     evaluator: &[u128],
     store: S,
 ) -> Result<Alone<S>, Memory>
-    requires count { length directives.now < 100 }
-    requires fields { AreDirectives 1 0 directives.now }
+    requires plan { IsMemProgram plan }
+    requires wires { plan.limits.page ≡ 64 }
+    requires workers { length plan.workers ≡ 1 }
     requires page { (S.tells store).page_bytes ≡ 64 }
 {
-    let plan = one_worker(alloc, directives)?;
     let Ok(verified) = verify(alloc, plan) else {
         return Err(Memory);
     };

@@ -1,21 +1,20 @@
 // Two workers, whose stores have one page each.
-ghost use Rattle.std.specs.Prelude.{◌≡◌, ◌<◌, length, IfOk};
+ghost use Rattle.std.specs.Prelude.{◌≡◌, length, IfOk};
 ghost use Rattle.std.specs.List.{All};
-ghost use Rattle.mage_verify.specs.Literals.{AreDirectives};
+ghost use Rattle.mage_directives.specs.Directives.{IsMemProgram};
 
-use crate::programs::two_workers;
 use mage_base::{MemStore, Memory};
 use mage_core::RunFault;
-use mage_instr::Directive;
+use mage_instr::MemProgram;
 use mage_solo::run_plain;
 use mage_verify::verify;
 use std::alloc::Global;
 
-/// One of two workers: its directives, and which calls of its store fail.
+/// Which calls of the stores of two workers fail.
 #[derive(Clone, Copy)]
-pub struct Worker<'a> {
-    pub directives: &'a [Directive],
-    pub fails: &'a [u64],
+pub struct Fails<'a> {
+    pub first: &'a [u64],
+    pub second: &'a [u64],
 }
 
 /// The values of one party for both workers.
@@ -45,27 +44,25 @@ pub(crate) fn both(alloc: Global, given: Given<'_>) -> Result<Vec<Vec<u128>>, Me
     Ok(lists)
 }
 
-/// Runs two workers in plain, on these values of both parties. `Memory` too where the directives have a fault.
+/// Runs two workers in plain, on these values of both parties. `Memory` too where the program has a fault.
 pub fn run_pair(
     alloc: Global,
-    first: Worker<'_>,
-    second: Worker<'_>,
+    plan: MemProgram,
     garbler: Given<'_>,
     evaluator: Given<'_>,
+    fails: Fails<'_>,
 ) -> Result<Result<Vec<Vec<u128>>, RunFault>, Memory>
-    requires count { (length first.directives.now < 100)
-        × (length second.directives.now < 100) }
-    requires first { AreDirectives 2 0 first.directives.now }
-    requires second { AreDirectives 2 1 second.directives.now }
+    requires plan { IsMemProgram plan }
+    requires wires { plan.limits.page ≡ 64 }
+    requires workers { length plan.workers ≡ 2 }
 {
-    let plan = two_workers(alloc, first.directives, second.directives)?;
     let Ok(verified) = verify(alloc, plan) else {
         return Err(Memory);
     };
     let garbler = both(alloc, garbler)?;
     let evaluator = both(alloc, evaluator)?;
     let mut stores = Vec::new(alloc);
-    stores.push(shelf(alloc, first.fails)?)?;
-    stores.push(shelf(alloc, second.fails)?)?;
+    stores.push(shelf(alloc, fails.first)?)?;
+    stores.push(shelf(alloc, fails.second)?)?;
     Ok(run_plain(alloc, verified.parts(), garbler, evaluator, stores).outcome)
 }

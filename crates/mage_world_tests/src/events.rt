@@ -1,10 +1,11 @@
 // Rows of events.
-use crate::programs::{summing, swapping, trading};
+use crate::programs::{summing, trading};
 use crate::worlds::{plain, world_of_one, world_of_two, world_that_stops};
 use mage_base::Memory;
 use mage_circuit::TallyDriver;
 use mage_instr::DriverFault;
 use mage_plain::PlainDriver;
+use mage_small_programs::swapping;
 use mage_world::{ApplyError, Event, World};
 use std::alloc::Global;
 use std::test::Fail;

@@ -1,6 +1,6 @@
 use Rattle.std.proofs.Common.{◌++◌, ◌∷◌, [], ap, ◌∙◌, arith}
 use Rattle.mage_base.specs.MemStore.{store_told}
-use Rattle.mage_solo_tests.proofs.Suiting.{parts_long, suits_of, lone_shelf}
+use Rattle.mage_small_programs.proofs.Suiting.{parts_long, suits_of, lone_shelf}
 use Rattle.mage_solo_tests.proofs.evaluated.evaluate_alone.Goals as goal
 
 pub run_evaluating-ended-requires-clause-labels : goal.run_evaluating-ended-requires-clause-labels

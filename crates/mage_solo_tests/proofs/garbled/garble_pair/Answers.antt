@@ -1,6 +1,6 @@
 use Rattle.std.proofs.Common.{◌++◌, ◌∷◌, [], ap, ◌∙◌, sym, arith}
 use Rattle.mage_base.specs.MemStore.{store_told}
-use Rattle.mage_solo_tests.proofs.Suiting.{parts_long, suits_of, two_shelves}
+use Rattle.mage_small_programs.proofs.Suiting.{parts_long, suits_of, two_shelves}
 use Rattle.mage_solo_tests.proofs.garbled.garble_pair.Goals as goal
 
 pub run_garbling-ended-requires-clause-garbler : goal.run_garbling-ended-requires-clause-garbler

@@ -1,5 +1,5 @@
-// Small memory programs on pages of 64 wires, with two frames and a buffer of one slot.
-ghost use Rattle.std.specs.Prelude.{◌≡◌, ◌<◌, ◌∷◌, [], length, IfOk};
+// Memory programs of given directives, on pages of 64 wires, with a buffer of one slot and stores of one page.
+ghost use Rattle.std.specs.Prelude.{◌≡◌, ◌<◌, ◌≤◌, length, IfOk};
 ghost use Rattle.mage_directives.specs.Directives.{IsMemProgram};
 ghost use Rattle.mage_instr.specs.Limits.{AreInRange};
 ghost use Rattle.mage_verify.specs.Literals.{AreDirectives};
@@ -9,20 +9,26 @@ use mage_instr::{Directive, Limits, MemProgram};
 use sqlite_items::Items;
 use std::alloc::Global;
 
-fn limits() -> Limits
+fn limits(frames: u32) -> Limits
+    requires { (1 ≤ frames) × (frames ≤ 2) }
     ensures range { AreInRange result }
     ensures page { result.page ≡ 64 }
 {
     Limits {
         page: 64,
-        frames: 2,
+        frames,
         buffer: 1,
         ahead: 0,
     }
 }
 
-/// The program of one worker, whose store has one page.
-pub(crate) fn one_worker(alloc: Global, directives: &[Directive]) -> Result<MemProgram, Memory>
+/// The program of one worker, with one frame or two.
+pub fn one_worker(
+    alloc: Global,
+    frames: u32,
+    directives: &[Directive],
+) -> Result<MemProgram, Memory>
+    requires frames { (1 ≤ frames) × (frames ≤ 2) }
     requires count { length directives.now < 100 }
     requires fields { AreDirectives 1 0 directives.now }
     ensures fields { IfOk result IsMemProgram }
@@ -34,14 +40,14 @@ pub(crate) fn one_worker(alloc: Global, directives: &[Directive]) -> Result<MemP
     let mut workers = Items::new(alloc);
     workers.push(Items::from_slice(alloc, directives)?)?;
     Ok(MemProgram {
-        limits: limits(),
+        limits: limits(frames),
         stores,
         workers,
     })
 }
 
-/// The program of two workers, whose stores have one page each.
-pub(crate) fn two_workers(
+/// The program of two workers, with two frames each.
+pub fn two_workers(
     alloc: Global,
     first: &[Directive],
     second: &[Directive],
@@ -60,7 +66,7 @@ pub(crate) fn two_workers(
     workers.push(Items::from_slice(alloc, first)?)?;
     workers.push(Items::from_slice(alloc, second)?)?;
     Ok(MemProgram {
-        limits: limits(),
+        limits: limits(2),
         stores,
         workers,
     })

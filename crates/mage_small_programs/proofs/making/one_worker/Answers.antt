@@ -1,7 +1,7 @@
 use Rattle.std.proofs.Common.{◌≡◌, ◌∙◌, ap, ap₂, ℕ, List, [], ◌∷◌, ◌++◌, length, arith, ◌<◌}
 use Rattle.mage_instr.specs.declared.directive.Directive.{Directive}
 use Rattle.mage_verify.proofs.ProgramLiterals.{one_worker}
-use Rattle.mage_solo_tests.proofs.programs.one_worker.Goals as goal
+use Rattle.mage_small_programs.proofs.making.one_worker.Goals as goal
 
 pub returns-clause-fields : goal.returns-clause-fields
 returns-clause-fields c =

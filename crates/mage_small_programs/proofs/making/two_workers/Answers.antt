@@ -4,7 +4,7 @@ use Rattle.mage_instr.specs.declared.directive.Directive.{Directive}
 use Rattle.mage_instr.specs.declared.replaced.Limits.{Limits}
 use Rattle.mage_directives.specs.Directives.{IsMemProgram, most_pages}
 use Rattle.mage_verify.proofs.ProgramLiterals.{two_workers}
-use Rattle.mage_core_tests.proofs.programs.two_workers.Goals as goal
+use Rattle.mage_small_programs.proofs.making.two_workers.Goals as goal
 
 -- the same program over stores of one page each
 with_pages : (limits : Limits) (workers : List (List Directive)) → length workers ≡ 2 →
