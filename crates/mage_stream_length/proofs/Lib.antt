@@ -1,0 +1,4 @@
+pub mod AndsAlone
+pub mod Saying
+pub mod Walking
+mod Widths
