@@ -10,10 +10,10 @@ use Rattle.mage_planner.specs.declared.status.Status.{Status}
 use Rattle.mage_planner.specs.declared.status.Status.TheVariants as status
 use Rattle.mage_planner.specs.Lines.{status_of, line_of}
 use Rattle.mage_planner.specs.Outcome.{Done, NewFile}
-use Rattle.mage_planner.specs.Steps.{IsNotDesk, IsNoDeskFault, RefusalCounted}
+use Rattle.mage_planner.specs.Steps.{IsNotDesk, IsNoDeskFault}
 use Rattle.mage_planner.specs.Warned.{WarnsLine, IsOrMemory}
-use Rattle.mage_planner.specs.Answer.{Answers, AnswersRefusal, Works, ComesFrom, Leaves, Stops, OthersStay, HasRoom, TellsStores, StoresAreSound, IsComplete, files_of, refusal_of}
-use Rattle.mage_planner.proofs.PerformLemmas.{back_faults, none_back}
+use Rattle.mage_planner.specs.Answer.{Answers, AnswersRefusal, Works, ComesFrom, Leaves, Stops, OthersStay, HasRoom, TellsStores, StoresAreSound, IsComplete, files_of, streams_of, refusal_of}
+use Rattle.mage_planner.proofs.PerformLemmas.{back_faults, none_back, none_closed}
 
 -- the status of a refusal is none of Ok
 answers : (steady : Bool) (outcome : Result Done Refusal) (before after : DeskTold) (why : Refusal)
@@ -52,26 +52,26 @@ stops outcome (refusal.Store worker) before after other breaks = record {
   shelves = breaks.shelves;
   between = breaks.between;
   returns = breaks.returns;
+  stopped = breaks.stopped;
   ceases = breaks.ceases;
+  closes = breaks.closes;
 }
 stops outcome (refusal.Damaged worker damage) before after other damages = record {
   shelves = damages.shelves;
   between = damages.between;
   returns = damages.returns;
+  stopped = damages.stopped;
   ceases = damages.ceases;
+  closes = damages.closes;
 }
 stops outcome why before after other leaves = rw leaves (record {
   shelves = [];
   between = before;
   returns = record { few = omega arith; given = none_back before };
+  stopped = before;
   ceases = record { files = others_stay (files_of outcome) before.files; rest = refl };
+  closes = none_closed (streams_of outcome) before;
 })
-
--- what a refusal leaves other than the desk's fault leaves the count of faults
-leaves_count : (why : Refusal) (before after : DeskTold) → (why ≡ refusal.Desk → ⊥)
-    → RefusalCounted before.faults after.faults why → after.faults ≡ before.faults
-leaves_count refusal.Desk before after other counted = absurd (other refl)
-leaves_count why before after other counted = counted
 
 store_status : (why : Refusal) → IsNotDesk why → status_of why ≡ status.Store → ⊥
 store_status (refusal.Store worker) not e = not
@@ -154,26 +154,29 @@ module _ (steady : Bool) (own warned : Refusal) (answer : Status) (is : answer �
 
     -- a steady desk with the files and the room doesn't fail, and nor do its stores
     pub steady_files : (files : Option Files) (outcome : Files → Result Done Refusal)
-        → IsTrue before.steady → RefusalCounted before.faults between.faults own
+        → IsTrue before.steady
         → between.steady ≡ before.steady
         → between.warn_room ≡ before.warn_room
         → (IsNotDesk own → StoresAreSound before between)
         → IfSome files (λ files.
-        IsNoDeskFault (outcome files) → HasRoom before (outcome files) → TellsStores before (outcome files) → IsNotDesk own)
+        IsNoDeskFault (outcome files) → HasRoom before (outcome files) → TellsStores before (outcome files) → streams_of (outcome files) ≡ []
+        → IsNotDesk own × (between.faults ≡ before.faults))
         → IfSome files (λ files.
         Works {T = Unit {0}} steady (outcome files) (Err own) before between)
         → IfSome files (λ files. IsNoDeskFault (outcome files) → HasRoom before (outcome files)
         → TellsStores before (outcome files)
+        → streams_of (outcome files) ≡ []
         → length (line_of refusal.Memory) ≤ before.warn_room
         → (after.faults ≡ before.faults) × StoresAreSound before after
         × (answer ≢ status.Desk) × (answer ≢ status.Store) × (answer ≢ status.Damaged))
-    steady_files None outcome holds counted stays room sound is_not works = tt
-    steady_files (Some files) outcome holds counted stays room sound is_not works = λ found has tells memory.
-        let not = is_not found has tells in
+    steady_files None outcome holds stays room sound is_not works = tt
+    steady_files (Some files) outcome holds stays room sound is_not works = λ found has tells none memory.
+        let calm = is_not found has tells none in
+        let not = calm.0 in
         let not_warned = warned_not_desk same not in
         let returned : after.returned ≡ between.returned = ap (λ (desk : DeskTold). desk.returned) warns.rest in (
           (warns.steady (rw stays holds) (rw room (fits same (outcome files) works.0 not has memory))).0
-              ∙ leaves_count own before between (not_desk own not) counted,
+              ∙ calm.1,
           λ worker. subst (λ (r : ℕ → Returned). (r worker).faults ≤ (before.returned worker).faults) (sym returned) (sound not worker),
           λ desk. not_desk warned not_warned (desk_status warned (sym is ∙ desk)),
           λ store. store_status warned not_warned (sym is ∙ store),

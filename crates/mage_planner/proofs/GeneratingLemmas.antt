@@ -11,7 +11,7 @@ use Rattle.mage_planner.specs.Answer.{Finishes, BreaksOff, Ceases, OthersStay, R
 use Rattle.mage_planner.specs.Ran.{Ran}
 use Rattle.mage_planner.specs.Stores.{AreOfDesk, GivesBack, HasDamaged, IsRight, WereDeceived}
 use Rattle.mage_planner.specs.Writing.{Performs, Writes}
-use Rattle.mage_planner.proofs.PerformLemmas.{all_stay, back_files, none_back, unnamed, unwritten}
+use Rattle.mage_planner.proofs.PerformLemmas.{all_stay, back_files, none_back, none_closed, unnamed, unwritten}
 use Rattle.mage_planner.proofs.RanLemmas.{all_sound, still_sound}
 use Rattle.mage_planner.proofs.WritingLemmas.{SoFar, first_stay, one_more_file, stopped_file}
 
@@ -191,7 +191,9 @@ module _ (files : List NewFile) (before : DeskTold) where
       shelves = stops.shelves;
       between = unwrote stops.between;
       returns = returns_before (length run.moves) stops.shelves stops.between stops.returns;
-      ceases = ceases_before stops.shelves stops.between after stops.returns.given stops.ceases;
+      stopped = stops.stopped;
+      ceases = ceases_before stops.shelves stops.between stops.stopped stops.returns.given stops.ceases;
+      closes = stops.closes;
     }
     performs_so (Err (refusal.Store worker)) breaks = (
       breaks.0,
@@ -201,7 +203,9 @@ module _ (files : List NewFile) (before : DeskTold) where
         returns = returns_before (length run.moves) breaks.1.shelves breaks.1.between breaks.1.returns;
         broken = breaks.1.broken;
         rose = breaks.1.rose;
-        ceases = ceases_before breaks.1.shelves breaks.1.between after breaks.1.returns.given breaks.1.ceases;
+        stopped = breaks.1.stopped;
+        ceases = ceases_before breaks.1.shelves breaks.1.between breaks.1.stopped breaks.1.returns.given breaks.1.ceases;
+        closes = breaks.1.closes;
       },
     )
     performs_so (Err (refusal.Damaged worker damage)) damages = (
@@ -211,7 +215,9 @@ module _ (files : List NewFile) (before : DeskTold) where
         between = unwrote damages.1.between;
         returns = returns_before (length run.moves) damages.1.shelves damages.1.between damages.1.returns;
         damaged = damaged_before damages.1.shelves worker damage damages.1.damaged;
-        ceases = ceases_before damages.1.shelves damages.1.between after damages.1.returns.given damages.1.ceases;
+        stopped = damages.1.stopped;
+        ceases = ceases_before damages.1.shelves damages.1.between damages.1.stopped damages.1.returns.given damages.1.ceases;
+        closes = damages.1.closes;
       },
     )
     performs_so (Err other) none = absurd none
@@ -237,7 +243,9 @@ not_written files summary run refusal.Memory before after wrote = record {
   shelves = [];
   between = before;
   returns = record { few = omega arith; given = none_back before };
+  stopped = after;
   ceases = unwritten files [] refusal.Memory before after wrote;
+  closes = none_closed [] after;
 }
 not_written files summary run other before after wrote = absurd wrote
 

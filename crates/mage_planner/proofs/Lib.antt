@@ -9,6 +9,10 @@ mod CarriedLemmas
 mod SoloLemmas
 mod RunLemmas
 mod RanLemmas
+mod GarbleLemmas
+mod StreamLemmas
+mod GarbledLemmas
+mod GarblingLemmas
 mod GeneratedLemmas
 mod GeneratingLemmas
 mod GeneratedFiles

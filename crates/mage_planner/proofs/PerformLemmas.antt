@@ -8,9 +8,9 @@ use Rattle.mage_source_runs.specs.Moves.{Moves}
 use Rattle.mage_planner.specs.declared.refusal.Refusal.{Refusal}
 use Rattle.mage_planner.specs.declared.refusal.Refusal.TheVariants as refusal
 use Rattle.mage_planner.specs.Outcome.{Done, NewFile, says_and_writes}
-use Rattle.mage_planner.specs.Steps.{IsNoDeskFault, StepCounted, RefusalCounted, Refuses}
+use Rattle.mage_planner.specs.Steps.{IsNoDeskFault, IsNotDesk, WorkCounted, RefusalCounted, Refuses}
 use Rattle.mage_planner.specs.Stores.{GivesBack, HaveMoved}
-use Rattle.mage_planner.specs.Answer.{Works, Ceases, HasRoom, TellsStores, OthersStay, files_of, text_of, with_files}
+use Rattle.mage_planner.specs.Answer.{Works, Ceases, Closes, HasRoom, TellsStores, OthersStay, files_of, streams_of, text_of, with_files}
 use Rattle.mage_planner.specs.Warned.{Grows}
 use Rattle.mage_planner.specs.Writing.{Finished, Performs, Writes}
 use Rattle.mage_planner.proofs.WritingLemmas.{one_stays, none_stays, grows_front}
@@ -66,6 +66,10 @@ module _ (shelves : List (List StoreTold)) (before after : DeskTold) (given : Gi
 pub none_back : (before : DeskTold) → GivesBack [] before before
 none_back before = record { own = tt; back = record { lent = record { often = λ id. refl; same = λ none. refl }; rest = refl } }
 
+-- no stream was closed
+pub none_closed : (streams : List NewFile) (desk : DeskTold) → Closes streams desk desk
+none_closed streams desk = record { rises = omega arith; calm = λ none. refl; rest = refl }
+
 -- where no store was asked for, nothing is given back
 back_none : (shelves : List (List StoreTold)) (before after : DeskTold) → length shelves ≡ 0 → GivesBack shelves before after
     → (after.returned ≡ before.returned) × (after.lent ≡ before.lent)
@@ -87,22 +91,45 @@ moved_count (own ∷ moves) ((store ∷ next ∷ others) ∷ shelves) moved = ab
 
 module _ (done : Done) (before after : DeskTold) where
   -- the count of faults
-  pub counts : (r : Result (Unit {0}) Refusal) → Performs done r before after → StepCounted before.faults after.faults r
+  ceased_count : (shelves : List (List StoreTold)) (between stopped : DeskTold) (written streams : List NewFile) → GivesBack shelves before between
+      → Ceases written between stopped → Closes streams stopped after → stopped.faults ≡ before.faults
+  ceased_count shelves between stopped written streams given ceases closes =
+      ap (λ (desk : DeskTold). desk.faults) ceases.rest ∙ back_faults shelves before between given
+
+  risen : (mid : ℕ) → mid ≡ before.faults → mid ≤ after.faults → before.faults ≤ after.faults
+  risen mid same rises = omega (arith, same, rises)
+
+  pub counts : (r : Result (Unit {0}) Refusal) → Performs done r before after → WorkCounted before.faults after.faults r
   counts (Ok x) does = ap (λ (desk : DeskTold). desk.faults) does.finishes.rest ∙ back_faults does.shelves before does.between does.given
   counts (Err refusal.Desk) fails =
       let same = back_faults fails.shelves before fails.between fails.returns.given in (rw same at fails.breaks.rises, rw same at fails.breaks.rose)
-  counts (Err refusal.Memory) stops = ap (λ (desk : DeskTold). desk.faults) stops.ceases.rest ∙ back_faults stops.shelves before stops.between stops.returns.given
+  counts (Err refusal.Memory) stops =
+      risen stops.stopped.faults (ceased_count stops.shelves stops.between stops.stopped _ _ stops.returns.given stops.ceases stops.closes) stops.closes.rises
   counts (Err (refusal.Store worker)) breaks =
-      ap (λ (desk : DeskTold). desk.faults) breaks.1.ceases.rest ∙ back_faults breaks.1.shelves before breaks.1.between breaks.1.returns.given
+      risen breaks.1.stopped.faults (ceased_count breaks.1.shelves breaks.1.between breaks.1.stopped _ _ breaks.1.returns.given breaks.1.ceases breaks.1.closes) breaks.1.closes.rises
   counts (Err (refusal.Damaged worker damage)) damages =
-      ap (λ (desk : DeskTold). desk.faults) damages.1.ceases.rest ∙ back_faults damages.1.shelves before damages.1.between damages.1.returns.given
+      risen damages.1.stopped.faults (ceased_count damages.1.shelves damages.1.between damages.1.stopped _ _ damages.1.returns.given damages.1.ceases damages.1.closes)
+      damages.1.closes.rises
   counts (Err other) none = absurd none
 
+  -- without streams only the desk's fault raises it
+  pub calm_counts : (r : Result (Unit {0}) Refusal) → done.streams ≡ [] → Performs done r before after → IsNoDeskFault r → after.faults ≡ before.faults
+  calm_counts (Ok x) none does not = counts (Ok x) does
+  calm_counts (Err refusal.Memory) none stops not =
+      stops.closes.calm none ∙ ceased_count stops.shelves stops.between stops.stopped _ _ stops.returns.given stops.ceases stops.closes
+  calm_counts (Err refusal.Desk) none performs not = absurd not
+  calm_counts (Err (refusal.Store worker)) none performs not = absurd not
+  calm_counts (Err (refusal.Damaged worker damage)) none performs not = absurd not
+  calm_counts (Err other) none performs not = absurd performs
+
   -- stores are back, and then files were written or not
-  ceased : (shelves : List (List StoreTold)) (between : DeskTold) (written : List NewFile) → GivesBack shelves before between → Ceases written between after → Frame before after
-  ceased shelves between written given ceases =
+  ceased : (shelves : List (List StoreTold)) (between stopped : DeskTold) (written streams : List NewFile) → GivesBack shelves before between → Ceases written between stopped
+      → Closes streams stopped after → Frame before after
+  ceased shelves between stopped written streams given ceases closes =
       joined_frames before between after (back_frame shelves before between given)
-      (framed between after after.files between.said between.faults between.room between.lent between.returned ceases.rest)
+      (joined_frames between stopped after
+      (framed between stopped stopped.files between.said between.faults between.room between.lent between.returned ceases.rest)
+      (framed stopped after stopped.files stopped.said after.faults stopped.room stopped.lent stopped.returned closes.rest))
 
   pub changes : (r : Result (Unit {0}) Refusal) → Performs done r before after → Frame before after
   changes (Ok x) does =
@@ -111,10 +138,11 @@ module _ (done : Done) (before after : DeskTold) where
   changes (Err refusal.Desk) fails =
       joined_frames before fails.between after (back_frame fails.shelves before fails.between fails.returns.given)
       (framed fails.between after after.files after.said after.faults after.room fails.between.lent fails.between.returned fails.breaks.rest)
-  changes (Err refusal.Memory) stops = ceased stops.shelves stops.between (files_of (Ok done)) stops.returns.given stops.ceases
-  changes (Err (refusal.Store worker)) breaks = ceased breaks.1.shelves breaks.1.between (files_of (Ok done)) breaks.1.returns.given breaks.1.ceases
+  changes (Err refusal.Memory) stops = ceased stops.shelves stops.between stops.stopped (files_of (Ok done)) done.streams stops.returns.given stops.ceases stops.closes
+  changes (Err (refusal.Store worker)) breaks =
+      ceased breaks.1.shelves breaks.1.between breaks.1.stopped (files_of (Ok done)) done.streams breaks.1.returns.given breaks.1.ceases breaks.1.closes
   changes (Err (refusal.Damaged worker damage)) damages =
-      ceased damages.1.shelves damages.1.between (files_of (Ok done)) damages.1.returns.given damages.1.ceases
+      ceased damages.1.shelves damages.1.between damages.1.stopped (files_of (Ok done)) done.streams damages.1.returns.given damages.1.ceases damages.1.closes
   changes (Err other) none = absurd none
 
   -- a command without files leaves them
@@ -122,22 +150,28 @@ module _ (done : Done) (before after : DeskTold) where
   none_of bare = ap₂ (λ (streams files : List NewFile). streams ++ files) bare.1 bare.0
 
   -- where none is written, others stay: all of them
-  none_written : (shelves : List (List StoreTold)) (between : DeskTold) → GivesBack shelves before between → OthersStay (files_of (Ok done)) between.files after.files
-      → IsBare done → after.files ≡ before.files
-  none_written shelves between given stay bare =
-      all_stay between.files after.files (subst (λ (written : List NewFile). OthersStay written between.files after.files) (none_of bare) stay)
+  none_written : (shelves : List (List StoreTold)) (between stopped : DeskTold) → GivesBack shelves before between → OthersStay (files_of (Ok done)) between.files stopped.files
+      → IsBare done → stopped.files ≡ before.files
+  none_written shelves between stopped given stay bare =
+      all_stay between.files stopped.files (subst (λ (written : List NewFile). OthersStay written between.files stopped.files) (none_of bare) stay)
       ∙ back_files shelves before between given
+
+  none_ceased : (shelves : List (List StoreTold)) (between stopped : DeskTold) → GivesBack shelves before between → Ceases (files_of (Ok done)) between stopped
+      → Closes done.streams stopped after → IsBare done → after.files ≡ before.files
+  none_ceased shelves between stopped given ceases closes bare =
+      ap (λ (desk : DeskTold). desk.files) closes.rest ∙ none_written shelves between stopped given ceases.files bare
 
   pub leaves_files : (r : Result (Unit {0}) Refusal) → Performs done r before after → IsBare done → after.files ≡ before.files
   leaves_files (Ok x) does bare =
       let filled = unnamed does.filled (does.named ∙ ap (map (λ (file : NewFile). file.name)) bare.1) in
       ap (λ (desk : DeskTold). desk.files) does.finishes.rest
       ∙ ap₂ (λ (streams files : List NewFile). with_files does.between.files (streams ++ files)) filled bare.0 ∙ back_files does.shelves before does.between does.given
-  leaves_files (Err refusal.Desk) fails bare = none_written fails.shelves fails.between fails.returns.given fails.breaks.files bare
-  leaves_files (Err refusal.Memory) stops bare = none_written stops.shelves stops.between stops.returns.given stops.ceases.files bare
-  leaves_files (Err (refusal.Store worker)) breaks bare = none_written breaks.1.shelves breaks.1.between breaks.1.returns.given breaks.1.ceases.files bare
+  leaves_files (Err refusal.Desk) fails bare = none_written fails.shelves fails.between after fails.returns.given fails.breaks.files bare
+  leaves_files (Err refusal.Memory) stops bare = none_ceased stops.shelves stops.between stops.stopped stops.returns.given stops.ceases stops.closes bare
+  leaves_files (Err (refusal.Store worker)) breaks bare =
+      none_ceased breaks.1.shelves breaks.1.between breaks.1.stopped breaks.1.returns.given breaks.1.ceases breaks.1.closes bare
   leaves_files (Err (refusal.Damaged worker damage)) damages bare =
-      none_written damages.1.shelves damages.1.between damages.1.returns.given damages.1.ceases.files bare
+      none_ceased damages.1.shelves damages.1.between damages.1.stopped damages.1.returns.given damages.1.ceases damages.1.closes bare
   leaves_files (Err other) performs bare = absurd performs
 
   -- a command that asks for no store leaves what came of others
@@ -159,8 +193,8 @@ module _ (done : Done) (before after : DeskTold) where
       let few = stops.returns.few in
       let count = ap (λ (moves : List Moves). length moves) none in
       let same = back_none stops.shelves before stops.between (omega (arith, few, count)) stops.returns.given in (
-        ap (λ (desk : DeskTold). desk.returned) stops.ceases.rest ∙ same.0,
-        ap (λ (desk : DeskTold). desk.lent) stops.ceases.rest ∙ same.1,
+        ap (λ (desk : DeskTold). desk.returned) stops.closes.rest ∙ ap (λ (desk : DeskTold). desk.returned) stops.ceases.rest ∙ same.0,
+        ap (λ (desk : DeskTold). desk.lent) stops.closes.rest ∙ ap (λ (desk : DeskTold). desk.lent) stops.ceases.rest ∙ same.1,
       )
   leaves_stores (Err (refusal.Store worker)) breaks none =
       let inside = breaks.0 in let count = ap (λ (moves : List Moves). length moves) none in absurd (omega (arith, inside, count))
@@ -187,10 +221,11 @@ module _ (before after : DeskTold) (Is : Done → Type 0) where
 
   pub steady_told : (files : Option Files) (outcome : Files → Result Done Refusal) (r : Result (Unit {0}) Refusal) →
       IfSome files (λ told. (done : Done) × Is done × (outcome told ≡ Ok done)) →
-      ((done : Done) → Is done → (done.moves ≢ [] → IsTrue before.stores_tell_pages) → length done.said ≤ before.room → IsNoDeskFault r) →
-      IfSome files (λ told. IsNoDeskFault (outcome told) → HasRoom before (outcome told) → TellsStores before (outcome told) → IsNoDeskFault r)
+      ((done : Done) → Is done → (done.moves ≢ [] → IsTrue before.stores_tell_pages) → done.streams ≡ [] → length done.said ≤ before.room → IsNoDeskFault r × (after.faults ≡ before.faults)) →
+      IfSome files (λ told. IsNoDeskFault (outcome told) → HasRoom before (outcome told) → TellsStores before (outcome told) → streams_of (outcome told) ≡ []
+      → IsNoDeskFault r × (after.faults ≡ before.faults))
   steady_told None outcome r comes steady = tt
-  steady_told (Some told) outcome r comes steady = λ found has tells. steady comes.0 comes.1 (rw comes.2 at tells) (rw comes.2 at has)
+  steady_told (Some told) outcome r comes steady = λ found has tells none. steady comes.0 comes.1 (rw comes.2 at tells) (rw comes.2 at none) (rw comes.2 at has)
 
 -- what is done without a store
 pub without_stores : (text : List ℕ) (files : List NewFile) (r : Result (Unit {0}) Refusal) (before after : DeskTold) →
@@ -219,7 +254,9 @@ without_stores text files (Err refusal.Memory) before after ceases = record {
   shelves = [];
   between = before;
   returns = record { few = omega arith; given = none_back before };
+  stopped = after;
   ceases = ceases;
+  closes = none_closed [] after;
 }
 without_stores text files (Err other) before after none = absurd none
 
@@ -229,6 +266,28 @@ work_without_stores done x r before after none none_too same finished =
     subst (λ (d : Done). Performs d r before after)
     (ap₂ (λ (moves : List Moves) (streams : List NewFile). record { said = x.said; files = x.files; streams = streams; moves = moves }) (sym none) (sym none_too) ∙ sym same)
     (without_stores x.said x.files r before after finished)
+
+-- nothing failed, and no fault was counted
+pub calm_too : (done : Done) (before after : DeskTold) (r : Result (Unit {0}) Refusal) → done.streams ≡ [] → Performs done r before after → IsNoDeskFault r
+    → IsNoDeskFault r × (after.faults ≡ before.faults)
+calm_too done before after r none performs not = (not, calm_counts done before after r none performs not)
+
+-- what a step of the work refuses isn't the desk's fault, where the desk is steady and the work doesn't come to it
+pub refused_steady : (steady : Bool) (why : Refusal) (outcome : Result Done Refusal) (before after : ℕ) → IsTrue steady → Refuses steady why outcome
+    → RefusalCounted before after why → IsNoDeskFault outcome → IsNotDesk why × (after ≡ before)
+refused_steady steady refusal.Desk outcome before after sure refuses counted not =
+    absurd (subst (λ (o : Result Done Refusal). IsNoDeskFault o) (refuses sure) not)
+refused_steady steady refusal.Memory outcome before after sure refuses counted not = (tt, counted)
+refused_steady steady (refusal.Store worker) outcome before after sure refuses counted not =
+    absurd (subst (λ (o : Result Done Refusal). IsNoDeskFault o) refuses not)
+refused_steady steady (refusal.Damaged worker damage) outcome before after sure refuses counted not =
+    absurd (subst (λ (o : Result Done Refusal). IsNoDeskFault o) refuses not)
+refused_steady steady why outcome before after sure refuses counted not = (tt, counted)
+
+-- what a step counts the whole work counts
+pub work_counted : (why : Refusal) (before after : ℕ) → RefusalCounted before after why → WorkCounted {T = Unit {0}} before after (Err why)
+work_counted refusal.Desk before after counted = counted
+work_counted why before after counted = omega (arith, counted)
 
 -- the desk that was read stays
 pub unread : (before mid : DeskTold) → mid ≡ record before { faults = mid.faults } → mid.faults ≡ before.faults → mid ≡ before
@@ -264,7 +323,9 @@ refused steady outcome refusal.Memory before after none refuses counted rest =
         shelves = [];
         between = before;
         returns = record { few = omega arith; given = none_back before };
+        stopped = after;
         ceases = rw same (record { files = none_stays (files_of outcome) before.files; rest = refl });
+        closes = none_closed (streams_of outcome) after;
       },
     )
 refused steady outcome (refusal.Store worker) before after none refuses counted rest = absurd (none tt refuses)

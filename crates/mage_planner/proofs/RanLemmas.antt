@@ -6,6 +6,7 @@ use Rattle.std.proofs.lemmas.Bool.{ltb-true, ltb-false}
 use Rattle.std.specs.declared.alloc.Global.{Global}
 use Rattle.std.proofs.lemmas.List.{length-map}
 use Rattle.std.proofs.Math.Path.{fun_ext}
+use Rattle.std.proofs.Math.Pow.{pow_mono}
 use Rattle.mage_base.specs.Desk.{DeskTold, Files, Returned, StoreId}
 use Rattle.mage_base.specs.Faults.{Rose}
 use Rattle.mage_base.specs.Store.{StoreTold, new_store}
@@ -17,6 +18,7 @@ use Rattle.mage_instr.specs.declared.party.Party.{Party}
 use Rattle.mage_instr.specs.declared.party.Party.TheVariants as party
 use Rattle.mage_instr.specs.declared.replaced.Limits.{Limits}
 use Rattle.mage_instr.specs.Inputs.{widths_in, input_widths_of}
+use Rattle.mage_instr.specs.Limits.{IsPageSize}
 use Rattle.mage_linked.specs.declared.emitted.Emitted.{Emitted}
 use Rattle.mage_linked.specs.Emission.{own_instrs, program_of}
 use Rattle.mage_linked.specs.Workers.{list_at, below}
@@ -57,7 +59,7 @@ use Rattle.mage_planner.specs.Writing.{Finished, Interrupts, Performs}
 use Rattle.mage_planner.specs.Steps.{IsNotDesk}
 use Rattle.mage_planner.specs.Work.{CanBeRun, IsRunOf}
 use Rattle.mage_planner.specs.Ran.{orders_of, HasLent, LendsSo, EndsSo, Halted, IsUnbroken, Ran, RanSo}
-use Rattle.mage_planner.proofs.PerformLemmas.{moved_count, none_back}
+use Rattle.mage_planner.proofs.PerformLemmas.{moved_count, none_back, none_closed}
 use Rattle.mage_planner.proofs.WritingLemmas.{both_all, grows_front, none_stays}
 use Rattle.mage_planner.proofs.RunLemmas.{moves_of_parts, one_all, sound_back, sound_used, sound_unused, given, as_many, has_broken, has_damaged, were_deceived, rose, broken_inside, damaged_inside, all_moved}
 
@@ -93,7 +95,7 @@ party_fits whose count emitted numbers fit n inside =
 
 -- ---- what a source's run is to do
 
-moves_from : (limits : Limits) (stores : List ℕ) (w : ℕ) (workers : List (List Directive))
+pub moves_from : (limits : Limits) (stores : List ℕ) (w : ℕ) (workers : List (List Directive))
     → moves_of_parts (parts_from limits stores w workers)
     ≡ map (λ part. record { reads = length (flat_map page_read part); writes = length (flat_map page_written part) }) workers
 moves_from limits stores w [] = refl
@@ -129,7 +131,7 @@ module _ (running : Running) (done : Done) (is : IsRunOf running done) where
   said_is : done.said ≡ said_of is.loaded own_given
   said_is = ap (λ (d : Done). d.said) is.is
 
-  module _ (before after : DeskTold) (fresh shelves : List (List StoreTold)) (lent : AreLent before (orders_of running.parts.items) fresh)
+  module _ (before after : DeskTold) (fresh shelves : List (List StoreTold)) (lent : AreLent before (orders_of 1 running.parts.items) fresh)
       (shape : map (λ shelf. length shelf) shelves ≡ map (λ shelf. length shelf) fresh) (grown : HaveGrown running.parts.items fresh shelves)
       (back : AreBack before.lent before after shelves)
     where
@@ -137,13 +139,13 @@ module _ (running : Running) (done : Done) (is : IsRunOf running done) where
       all_parts = running.parts.items
 
       few : length shelves ≤ length done.moves
-      few = let many = as_many before after all_parts fresh shelves lent shape grown back in omega (arith, many, moves_count)
+      few = let many = as_many 1 before after all_parts fresh shelves lent shape grown back in omega (arith, many, moves_count)
 
       right : (outputs : List (List ℕ))
           → (outputs ≡ means_of (program_of source.count source.emitted) own_given) ⊎ solo.WereDeceived all_parts fresh shelves
           → IsRight before shelves done.said (text_of outputs)
       right outputs (inl same) = inl (ap text_of (same ∙ source.means own_given) ∙ sym said_is)
-      right outputs (inr deceived) = inr (were_deceived before after all_parts fresh shelves lent shape grown back deceived)
+      right outputs (inr deceived) = inr (were_deceived 1 before after all_parts fresh shelves lent shape grown back deceived)
 
       pub ends : (outcome : Result (Vec (Vec ℕ Global) Global) RunFault) → AreVerified all_parts
           → OnOk outcome (AreMoved all_parts fresh shelves)
@@ -153,28 +155,28 @@ module _ (running : Running) (done : Done) (is : IsRunOf running done) where
           → EndsSo done outcome before after
       ends (Ok outputs) verified moved stops said = record {
         shelves = shelves;
-        moved = subst (λ (moves : List Moves). HaveMoved moves shelves) (sym moves_are) (all_moved before after all_parts fresh shelves lent shape grown back verified moved);
-        given = given before after all_parts fresh shelves lent shape grown back;
+        moved = subst (λ (moves : List Moves). HaveMoved moves shelves) (sym moves_are) (all_moved 1 before after all_parts fresh shelves lent shape grown back verified moved);
+        given = given 1 before after all_parts fresh shelves lent shape grown back;
         right = right (lists_of outputs.items) (said is.plan source.count source.emitted source.accepted.fields is.parts source.carries can_run);
       }
       ends (Err (fault.Store worker)) verified moved stops said =
-          let broken = has_broken before after all_parts fresh shelves lent shape grown back worker stops in
-          let inside = broken_inside before after all_parts fresh shelves lent shape grown back worker broken in
+          let broken = has_broken 1 before after all_parts fresh shelves lent shape grown back worker stops in
+          let inside = broken_inside 1 before after all_parts fresh shelves lent shape grown back worker broken in
           record {
             shelves = shelves;
             between = after;
-            returns = record { few = few; given = given before after all_parts fresh shelves lent shape grown back };
-            cause = (omega (arith, inside, moves_count), broken, rose before after all_parts fresh shelves lent shape grown back worker broken);
+            returns = record { few = few; given = given 1 before after all_parts fresh shelves lent shape grown back };
+            cause = (omega (arith, inside, moves_count), broken, rose 1 before after all_parts fresh shelves lent shape grown back worker broken);
             rest = refl;
             faults = refl;
           }
       ends (Err (fault.Damaged worker damage)) verified moved stops said =
-          let damaged = has_damaged before after all_parts fresh shelves lent shape grown back worker damage stops in
-          let inside = damaged_inside before after all_parts fresh shelves lent shape grown back worker damage damaged in
+          let damaged = has_damaged 1 before after all_parts fresh shelves lent shape grown back worker damage stops in
+          let inside = damaged_inside 1 before after all_parts fresh shelves lent shape grown back worker damage damaged in
           record {
             shelves = shelves;
             between = after;
-            returns = record { few = few; given = given before after all_parts fresh shelves lent shape grown back };
+            returns = record { few = few; given = given 1 before after all_parts fresh shelves lent shape grown back };
             cause = (omega (arith, inside, moves_count), damaged);
             rest = refl;
             faults = refl;
@@ -183,7 +185,7 @@ module _ (running : Running) (done : Done) (is : IsRunOf running done) where
       ends (Err fault.Memory) verified moved stops said = record {
         shelves = shelves;
         between = after;
-        returns = record { few = few; given = given before after all_parts fresh shelves lent shape grown back };
+        returns = record { few = few; given = given 1 before after all_parts fresh shelves lent shape grown back };
         cause = tt;
         rest = refl;
         faults = refl;
@@ -197,14 +199,14 @@ counts_told tells [] = refl
 counts_told tells (shelf ∷ stores) = ap₂ (λ (n : ℕ) (ns : List ℕ). n ∷ ns) (length-map shelf.items tells) (counts_told tells stores)
 
 -- one is on each
-ones_lent : (before : DeskTold) (parts : List WorkerPart) (fresh : List (List StoreTold)) → AreLent before (orders_of parts) fresh
+ones_lent : (bytes : ℕ) (before : DeskTold) (parts : List WorkerPart) (fresh : List (List StoreTold)) → AreLent before (orders_of bytes parts) fresh
     → map (λ shelf. length shelf) fresh ≡ replicate (length parts) 1
-ones_lent before [] [] lent = refl
-ones_lent before [] (shelf ∷ fresh) lent = absurd lent
-ones_lent before (part ∷ parts) [] lent = absurd lent
-ones_lent before (part ∷ parts) ([] ∷ fresh) lent = absurd lent.0
-ones_lent before (part ∷ parts) ((store ∷ []) ∷ fresh) lent = ap (λ (ns : List ℕ). 1 ∷ ns) (ones_lent before parts fresh lent.1)
-ones_lent before (part ∷ parts) ((store ∷ next ∷ others) ∷ fresh) lent = absurd lent.0
+ones_lent bytes before [] [] lent = refl
+ones_lent bytes before [] (shelf ∷ fresh) lent = absurd lent
+ones_lent bytes before (part ∷ parts) [] lent = absurd lent
+ones_lent bytes before (part ∷ parts) ([] ∷ fresh) lent = absurd lent.0
+ones_lent bytes before (part ∷ parts) ((store ∷ []) ∷ fresh) lent = ap (λ (ns : List ℕ). 1 ∷ ns) (ones_lent bytes before parts fresh lent.1)
+ones_lent bytes before (part ∷ parts) ((store ∷ next ∷ others) ∷ fresh) lent = absurd lent.0
 
 first_is : (m n : ℕ) (ms ns : List ℕ) → m ∷ ms ≡ n ∷ ns → (m ≡ n) × (ms ≡ ns)
 first_is m n ms ns e = (cc, cc)
@@ -221,28 +223,27 @@ all_ones {S} (shelf ∷ stores) (suc n) e =
     (both_all (λ (shelf : Vec S Global). length shelf.items ≡ 1) shelf stores same.0 rest.0, omega (arith, many))
 
 -- a shelf suits its part
-suits_one : {S : Type 0} (tells : S → StoreTold) (before : DeskTold) (part : WorkerPart) (items : List S)
-    → IsLent before (record { pages = part.pages; page_bytes = part.limits.page }) (map tells items) → HasStoreOf 1 tells part items
-suits_one tells before part [] lent = absurd lent
-suits_one {S} tells before part (store ∷ []) lent =
-    let bytes = ap (λ (told : StoreTold). told.page_bytes) lent.fresh in
-    record { one = refl; bytes = one_all (λ (s : S). (tells s).page_bytes ≡ part.limits.page * 1) store (omega (arith, bytes)) }
-suits_one tells before part (store ∷ next ∷ items) lent = absurd lent
+suits_one : {S : Type 0} (tells : S → StoreTold) (bytes : ℕ) (before : DeskTold) (part : WorkerPart) (items : List S)
+    → IsLent before (record { pages = part.pages; page_bytes = part.limits.page * bytes }) (map tells items) → HasStoreOf bytes tells part items
+suits_one tells bytes before part [] lent = absurd lent
+suits_one {S} tells bytes before part (store ∷ []) lent =
+    record { one = refl; bytes = one_all (λ (s : S). (tells s).page_bytes ≡ part.limits.page * bytes) store (ap (λ (told : StoreTold). told.page_bytes) lent.fresh) }
+suits_one tells bytes before part (store ∷ next ∷ items) lent = absurd lent
 
-pub suits : {S : Type 0} (tells : S → StoreTold) (before : DeskTold) (parts : List WorkerPart) (stores : List (Vec S Global))
-    → AreLent before (orders_of parts) (told_on tells stores)
-    → (w : ℕ) → IfSome (slice_get parts w) (λ part. IfSome (slice_get stores w) (λ shelf. HasStoreOf 1 tells part shelf.items))
-suits tells before [] [] lent zero = tt
-suits tells before [] [] lent (suc w) = tt
-suits tells before [] (shelf ∷ stores) lent w = absurd lent
-suits tells before (part ∷ parts) [] lent w = absurd lent
-suits tells before (part ∷ parts) (shelf ∷ stores) lent zero = suits_one tells before part shelf.items lent.0
-suits tells before (part ∷ parts) (shelf ∷ stores) lent (suc w) = suits tells before parts stores lent.1 w
+pub suits : {S : Type 0} (tells : S → StoreTold) (bytes : ℕ) (before : DeskTold) (parts : List WorkerPart) (stores : List (Vec S Global))
+    → AreLent before (orders_of bytes parts) (told_on tells stores)
+    → (w : ℕ) → IfSome (slice_get parts w) (λ part. IfSome (slice_get stores w) (λ shelf. HasStoreOf bytes tells part shelf.items))
+suits tells bytes before [] [] lent zero = tt
+suits tells bytes before [] [] lent (suc w) = tt
+suits tells bytes before [] (shelf ∷ stores) lent w = absurd lent
+suits tells bytes before (part ∷ parts) [] lent w = absurd lent
+suits tells bytes before (part ∷ parts) (shelf ∷ stores) lent zero = suits_one tells bytes before part shelf.items lent.0
+suits tells bytes before (part ∷ parts) (shelf ∷ stores) lent (suc w) = suits tells bytes before parts stores lent.1 w
 
-pub lent_count : {S : Type 0} (tells : S → StoreTold) (before : DeskTold) (parts : List WorkerPart) (stores : List (Vec S Global))
-    → AreLent before (orders_of parts) (told_on tells stores) → length stores ≡ length parts
-lent_count tells before parts stores lent =
-    (all_ones stores (length parts) (sym (counts_told tells stores) ∙ ones_lent before parts (told_on tells stores) lent)).1
+pub lent_count : {S : Type 0} (tells : S → StoreTold) (bytes : ℕ) (before : DeskTold) (parts : List WorkerPart) (stores : List (Vec S Global))
+    → AreLent before (orders_of bytes parts) (told_on tells stores) → length stores ≡ length parts
+lent_count tells bytes before parts stores lent =
+    (all_ones stores (length parts) (sym (counts_told tells stores) ∙ ones_lent bytes before parts (told_on tells stores) lent)).1
 
 -- a program has at most 16 workers
 pub few_parts : (parts : List WorkerPart) → AreVerified parts → length parts ≤ 16
@@ -254,7 +255,7 @@ few_parts parts verified =
     omega (arith, few, many, are)
 
 -- and at least one
-some_parts : (parts : List WorkerPart) → AreVerified parts → 1 ≤ length parts
+pub some_parts : (parts : List WorkerPart) → AreVerified parts → 1 ≤ length parts
 some_parts parts verified =
     let some = verified.whole.1.some_worker in
     let many : length (parts_of verified.whole.0) ≡ length verified.whole.0.workers =
@@ -262,22 +263,36 @@ some_parts parts verified =
     let are : length parts ≡ length (parts_of verified.whole.0) = ap length verified.whole.2 in
     omega (arith, some, many, are)
 
-pub few_orders : (parts : List WorkerPart) (orders : List StoreOrder) → AreVerified parts → orders ≡ orders_of parts → length orders ≤ 65535
-few_orders parts orders verified same =
+-- and a page has at most so many wires
+pub pages_fit : (parts : List WorkerPart) → AreVerified parts → All (λ part. part.limits.page ≤ 65536) parts
+pages_fit parts verified =
+    subst (λ (all : List WorkerPart). All (λ part. part.limits.page ≤ 65536) all) (sym verified.whole.2)
+    (each verified.whole.0.limits verified.whole.0.stores 0 verified.whole.0.workers (small verified.whole.0.limits.page verified.whole.1.limits.page))
+  where
+    small : (page : ℕ) → IsPageSize page → page ≤ 65536
+    small page size = let grows : 2 ^ size.0 ≤ 65536 = pow_mono {j = 16} size.2 in omega (arith, grows, size.3)
+
+    each : (limits : Limits) (stores : List ℕ) (w : ℕ) (workers : List (List Directive)) → limits.page ≤ 65536 → All (λ part. part.limits.page ≤ 65536) (parts_from limits stores w workers)
+    each limits stores w [] fits = λ k d inside. absurd (omega (arith, inside))
+    each limits stores w (directives ∷ workers) fits =
+        both_all (λ (part : WorkerPart). part.limits.page ≤ 65536) _ (parts_from limits stores (w + 1) workers) fits (each limits stores (w + 1) workers fits)
+
+pub few_orders : (bytes : ℕ) (parts : List WorkerPart) (orders : List StoreOrder) → AreVerified parts → orders ≡ orders_of bytes parts → length orders ≤ 65535
+few_orders bytes parts orders verified same =
     let few = few_parts parts verified in
     let many = ap (λ (all : List StoreOrder). length all) same in
-    let count : length (orders_of parts) ≡ length parts = length-map parts _ in
+    let count : length (orders_of bytes parts) ≡ length parts = length-map parts _ in
     omega (arith, few, many, count)
 
-module _ {S : Type 0} (tells : S → StoreTold) (before now : DeskTold) (parts : List WorkerPart) (stores others : List (Vec S Global))
-    (has : HasLent before parts (told_on tells stores) now)
+module _ {S : Type 0} (tells : S → StoreTold) (bytes : ℕ) (before now : DeskTold) (parts : List WorkerPart) (stores others : List (Vec S Global))
+    (has : HasLent bytes before parts (told_on tells stores) now)
     (shape : map (λ shelf. length shelf) (shelves others) ≡ map (λ shelf. length shelf) (shelves stores))
   where
     pub same_shape : map (λ shelf. length shelf) (told_on tells others) ≡ map (λ shelf. length shelf) (told_on tells stores)
     same_shape = counts_told tells others ∙ shape ∙ sym (counts_told tells stores)
 
     one_each : All (λ shelf. length shelf.items ≡ 1) others × (length others ≡ length parts)
-    one_each = all_ones others (length parts) (shape ∙ sym (counts_told tells stores) ∙ ones_lent before parts (told_on tells stores) has.stores)
+    one_each = all_ones others (length parts) (shape ∙ sym (counts_told tells stores) ∙ ones_lent bytes before parts (told_on tells stores) has.stores)
 
     pub one_on_each : All (λ shelf. length shelf.items ≡ 1) others
     one_on_each = one_each.0
@@ -304,14 +319,14 @@ module _ {S : Type 0} (tells : S → StoreTold) (before now : DeskTold) (parts :
           → IfErr outcome (PlainStops parts (told_on tells stores) (told_on tells others))
           → IsUnbroken outcome → StoresAreSound before after
       sound_over (Ok outputs) moved memory stops unbroken =
-          sound_back before after parts (told_on tells stores) (told_on tells others) has.stores same_shape grown (back_before after back)
-          (sound_used before after parts (told_on tells stores) (told_on tells others) has.stores same_shape grown (back_before after back) moved)
+          sound_back bytes before after parts (told_on tells stores) (told_on tells others) has.stores same_shape grown (back_before after back)
+          (sound_used bytes before after parts (told_on tells stores) (told_on tells others) has.stores same_shape grown (back_before after back) moved)
       sound_over (Err (fault.Store worker)) moved memory stops unbroken = absurd unbroken
       sound_over (Err (fault.Damaged worker damage)) moved memory stops unbroken = absurd unbroken
       sound_over (Err (fault.Driver worker f)) moved memory stops unbroken = absurd stops
       sound_over (Err fault.Memory) moved memory stops unbroken =
-          sound_back before after parts (told_on tells stores) (told_on tells others) has.stores same_shape grown (back_before after back)
-          (sound_unused before after parts (told_on tells stores) (told_on tells others) has.stores same_shape grown (back_before after back)
+          sound_back bytes before after parts (told_on tells stores) (told_on tells others) has.stores same_shape grown (back_before after back)
+          (sound_unused bytes before after parts (told_on tells stores) (told_on tells others) has.stores same_shape grown (back_before after back)
           (ap (λ (all : List (List S)). map (λ shelf. map tells shelf) all) (memory refl)))
 
 pub unbroken_so : (outcome : Result (Vec (Vec ℕ Global) Global) RunFault) → IfErr outcome (λ f. f ≡ fault.Memory) → IsUnbroken outcome
@@ -389,7 +404,9 @@ halted done refusal.Memory before after h = record {
   shelves = h.shelves;
   between = h.between;
   returns = h.returns;
+  stopped = after;
   ceases = none_ceases h.between after h.rest (done.streams ++ done.files) h.faults;
+  closes = none_closed done.streams after;
 }
 halted done (refusal.Store worker) before after h = (
   h.cause.0,
@@ -399,7 +416,9 @@ halted done (refusal.Store worker) before after h = (
     returns = h.returns;
     broken = h.cause.1;
     rose = subst (λ (r : ℕ → Returned). Rose (before.returned worker).faults (r worker).faults) (sym (ap (λ (desk : DeskTold). desk.returned) h.rest)) h.cause.2;
+    stopped = after;
     ceases = none_ceases h.between after h.rest (done.streams ++ done.files) h.faults;
+    closes = none_closed done.streams after;
   },
 )
 halted done (refusal.Damaged worker damage) before after h = (
@@ -409,7 +428,9 @@ halted done (refusal.Damaged worker damage) before after h = (
     between = h.between;
     returns = h.returns;
     damaged = h.cause.1;
+    stopped = after;
     ceases = none_ceases h.between after h.rest (done.streams ++ done.files) h.faults;
+    closes = none_closed done.streams after;
   },
 )
 halted done why before after h = absurd h.cause
@@ -446,7 +467,9 @@ ran_said done text (Err refusal.Memory) before between after none ran ceases =
       shelves = ran.shelves;
       between = between;
       returns = record { few = omega (arith, many); given = ran.given };
+      stopped = after;
       ceases = subst (λ (files : List NewFile). Ceases files between after) (sym none) ceases;
+      closes = none_closed done.streams after;
     }
 ran_said done text (Err other) before between after none ran none_too = absurd none_too
 
@@ -585,21 +608,22 @@ module _ (before after : DeskTold) (workers : ℕ) (none : NoneAreLent before af
 
 -- ---- what lending leaves
 
-pub lent_so : (before now : DeskTold) (parts : List WorkerPart) (fresh : List (List StoreTold)) → HasLent before parts fresh now → (desk : DeskTold) × HasLent desk parts fresh now
-lent_so before now parts fresh has = (before, has)
+pub lent_so : (bytes : ℕ) (before now : DeskTold) (parts : List WorkerPart) (fresh : List (List StoreTold)) → HasLent bytes before parts fresh now → (desk : DeskTold) × HasLent bytes desk parts fresh now
+lent_so bytes before now parts fresh has = (before, has)
 
-pub has_lent : (before now : DeskTold) (parts : List WorkerPart) (orders : List StoreOrder) (fresh : List (List StoreTold)) → orders ≡ orders_of parts
-    → AreLent before orders fresh → now ≡ record before { lent = before.lent ++ own_stores 0 (length orders) } → HasLent before parts fresh now
-has_lent before now parts orders fresh same lent rest = record {
+pub has_lent : (bytes : ℕ) (before now : DeskTold) (parts : List WorkerPart) (orders : List StoreOrder) (fresh : List (List StoreTold)) → orders ≡ orders_of bytes parts
+    → AreLent before orders fresh → now ≡ record before { lent = before.lent ++ own_stores 0 (length orders) } → HasLent bytes before parts fresh now
+has_lent bytes before now parts orders fresh same lent rest = record {
   stores = subst (λ (all : List StoreOrder). AreLent before all fresh) same lent;
   rest = rest ∙ ap (λ (n : ℕ). record before { lent = before.lent ++ own_stores 0 n }) (ap (λ (all : List StoreOrder). length all) same ∙ length-map parts _);
 }
 
-pub unlent : (T : Type 0) (running : Running) (done : Done) (orders : List StoreOrder) (why : Refusal) (before after : DeskTold) → IsRunOf running done → orders ≡ orders_of running.parts.items
+pub unlent : (T : Type 0) (bytes : ℕ) (parts : List WorkerPart) (done : Done) (orders : List StoreOrder) (why : Refusal) (before after : DeskTold)
+    → length done.moves ≡ length parts → orders ≡ orders_of bytes parts
     → LendsSo {T = T} (length orders) (Err why) before after → Halted (length done.moves) why before after
-unlent T running done orders why before after is same lends = go why lends where
+unlent T bytes parts done orders why before after many same lends = go why lends where
   count : length orders ≡ length done.moves
-  count = ap (λ (all : List StoreOrder). length all) same ∙ length-map running.parts.items _ ∙ sym (moves_count running done is)
+  count = ap (λ (all : List StoreOrder). length all) same ∙ length-map parts _ ∙ sym many
 
   go : (why : Refusal) → LendsSo {T = T} (length orders) (Err why) before after → Halted (length done.moves) why before after
   go refusal.Desk lends = unlent_fails before after (length orders) lends.0 done count lends.1 lends.2

@@ -1,5 +1,5 @@
 -- A run over stores of the desk: what they come to, and what is said.
-use Rattle.std.proofs.Common.{◌≡◌, ◌<◌, ◌≤◌, ◌++◌, ℕ, zero, suc, List, [], ◌∷◌, length, map, Bool, true, false, cond, IsTrue, Option, Some, None, IsSome, slice_get, refl, sym, ap, subst, ◌∙◌, arith}
+use Rattle.std.proofs.Common.{◌≡◌, ◌<◌, ◌≤◌, ◌*◌, ◌++◌, ℕ, zero, suc, List, [], ◌∷◌, length, map, Bool, true, false, cond, IsTrue, Option, Some, None, IsSome, slice_get, refl, sym, ap, subst, ◌∙◌, arith}
 use Rattle.std.specs.List.{All, flat_map}
 use Rattle.std.specs.Option.{IfSome, option_map, option_or, option_to_list}
 use Rattle.mage_base.specs.declared.failure.Damage.{Damage}
@@ -39,12 +39,12 @@ Each P [] [] [] = Unit {0}
 Each P (part ∷ parts) ((old ∷ []) ∷ fresh) ((new ∷ []) ∷ shelves) = P part old new × Each P parts fresh shelves
 Each P _ _ _ = ⊥
 
--- a store was lent to the part's worker
-abbrev pub IsOwn : DeskTold → WorkerPart → StoreTold → StoreTold → Type 0
-IsOwn before part old new = HandsStore before part.pages part.limits.page old
+-- a store was lent to the part's worker, where a wire takes so many bytes
+abbrev pub IsOwn : (bytes : ℕ) → DeskTold → WorkerPart → StoreTold → StoreTold → Type 0
+IsOwn bytes before part old new = HandsStore before part.pages (part.limits.page * bytes) old
 
 -- as many stores are on each shelf
-abbrev counts : List (List StoreTold) → List ℕ
+abbrev pub counts : List (List StoreTold) → List ℕ
 counts shelves = map (λ shelf. length shelf) shelves
 
 same_first : (m n : ℕ) (ms ns : List ℕ) → m ∷ ms ≡ n ∷ ns → m ≡ n
@@ -53,20 +53,20 @@ same_first m n ms ns e = cc
 same_rest : (m n : ℕ) (ms ns : List ℕ) → m ∷ ms ≡ n ∷ ns → ms ≡ ns
 same_rest m n ms ns e = cc
 
-pub each_own : (before : DeskTold) (parts : List WorkerPart) (fresh shelves : List (List StoreTold)) → AreLent before (orders_of parts) fresh
-    → counts shelves ≡ counts fresh → Each (IsOwn before) parts fresh shelves
-each_own before [] [] [] lent same = tt
-each_own before [] [] (shelf ∷ shelves) lent same = absurd (cc)
-each_own before [] (shelf ∷ fresh) shelves lent same = absurd lent
-each_own before (part ∷ parts) [] shelves lent same = absurd lent
-each_own before (part ∷ parts) ([] ∷ fresh) shelves lent same = absurd lent.0
-each_own before (part ∷ parts) ((old ∷ next ∷ others) ∷ fresh) shelves lent same = absurd lent.0
-each_own before (part ∷ parts) ((old ∷ []) ∷ fresh) [] lent same = absurd (cc)
-each_own before (part ∷ parts) ((old ∷ []) ∷ fresh) ([] ∷ shelves) lent same =
+pub each_own : (bytes : ℕ) (before : DeskTold) (parts : List WorkerPart) (fresh shelves : List (List StoreTold)) → AreLent before (orders_of bytes parts) fresh
+    → counts shelves ≡ counts fresh → Each (IsOwn bytes before) parts fresh shelves
+each_own bytes before [] [] [] lent same = tt
+each_own bytes before [] [] (shelf ∷ shelves) lent same = absurd (cc)
+each_own bytes before [] (shelf ∷ fresh) shelves lent same = absurd lent
+each_own bytes before (part ∷ parts) [] shelves lent same = absurd lent
+each_own bytes before (part ∷ parts) ([] ∷ fresh) shelves lent same = absurd lent.0
+each_own bytes before (part ∷ parts) ((old ∷ next ∷ others) ∷ fresh) shelves lent same = absurd lent.0
+each_own bytes before (part ∷ parts) ((old ∷ []) ∷ fresh) [] lent same = absurd (cc)
+each_own bytes before (part ∷ parts) ((old ∷ []) ∷ fresh) ([] ∷ shelves) lent same =
     let e = same_first 0 1 (counts shelves) (counts fresh) same in absurd (omega (arith, e))
-each_own before (part ∷ parts) ((old ∷ []) ∷ fresh) ((new ∷ []) ∷ shelves) lent same =
-    (lent.0, each_own before parts fresh shelves lent.1 (same_rest 1 1 (counts shelves) (counts fresh) same))
-each_own before (part ∷ parts) ((old ∷ []) ∷ fresh) ((new ∷ next ∷ others) ∷ shelves) lent same =
+each_own bytes before (part ∷ parts) ((old ∷ []) ∷ fresh) ((new ∷ []) ∷ shelves) lent same =
+    (lent.0, each_own bytes before parts fresh shelves lent.1 (same_rest 1 1 (counts shelves) (counts fresh) same))
+each_own bytes before (part ∷ parts) ((old ∷ []) ∷ fresh) ((new ∷ next ∷ others) ∷ shelves) lent same =
     let e = same_first (length (new ∷ next ∷ others)) 1 (counts shelves) (counts fresh) same in absurd (omega (arith, e))
 
 -- what holds of each worker of a run too
@@ -123,16 +123,16 @@ issues_written (entry.Do job ∷ directives) = let rest = issues_written directi
 abbrev pub moves_of_parts : List WorkerPart → List Moves
 moves_of_parts parts = map (λ part. record { reads = length (flat_map page_read part.directives); writes = length (flat_map page_written part.directives) }) parts
 
-module _ (before : DeskTold) where
-  made_of : (part : WorkerPart) (old new : StoreTold) (made : List Transfer) → IsOwn before part old new → Gained old new made → Made before new made
+module _ (bytes : ℕ) (before : DeskTold) where
+  made_of : (part : WorkerPart) (old new : StoreTold) (made : List Transfer) → IsOwn bytes before part old new → Gained old new made → Made before new made
   made_of part old new made own gained =
       log_made before.stores_tell_logs old.log new.log made (ap (λ (store : StoreTold). store.log) own.fresh) gained
 
-  untold_of : (part : WorkerPart) (old new : StoreTold) → IsOwn before part old new → old.pages ≡ None → before.stores_tell_pages ≡ false
+  untold_of : (part : WorkerPart) (old new : StoreTold) → IsOwn bytes before part old new → old.pages ≡ None → before.stores_tell_pages ≡ false
   untold_of part old new own none = untold before.stores_tell_pages old.pages _ (ap (λ (store : StoreTold). store.pages) own.fresh) none
 
   -- the stores are the desk's
-  of_desk : (parts : List WorkerPart) (fresh shelves : List (List StoreTold)) → Each (λ part old new. IsOwn before part old new × Grew old new) parts fresh shelves
+  of_desk : (parts : List WorkerPart) (fresh shelves : List (List StoreTold)) → Each (λ part old new. IsOwn bytes before part old new × Grew old new) parts fresh shelves
       → AreOfDesk before shelves
   of_desk [] [] [] each = tt
   of_desk (part ∷ parts) ((old ∷ []) ∷ fresh) ((new ∷ []) ∷ shelves) each =
@@ -140,8 +140,8 @@ module _ (before : DeskTold) where
   of_desk _ _ _ each = absurd each
 
   -- what was lent to a worker
-  own_at : (parts : List WorkerPart) (fresh shelves : List (List StoreTold)) → Each (IsOwn before) parts fresh shelves
-      → (w : ℕ) (worker : Stored parts fresh shelves w) → IsOwn before worker.part worker.old worker.new
+  own_at : (parts : List WorkerPart) (fresh shelves : List (List StoreTold)) → Each (IsOwn bytes before) parts fresh shelves
+      → (w : ℕ) (worker : Stored parts fresh shelves w) → IsOwn bytes before worker.part worker.old worker.new
   own_at [] [] [] each w worker = let e = worker.part_so in absurd (none_there w e) where
     none_there : (w : ℕ) {x : WorkerPart} → slice_get [] w ≡ Some x → ⊥
     none_there zero e = cc
@@ -149,7 +149,7 @@ module _ (before : DeskTold) where
   own_at (part ∷ parts) ((old ∷ []) ∷ fresh) ((new ∷ []) ∷ shelves) each zero worker =
       let same_part : part ≡ worker.part = some_is part worker.part worker.part_so in
       let same_old : old ≡ worker.old = one_is old worker.old worker.old_so in
-      subst (λ (p : WorkerPart). IsOwn before p worker.old worker.new) same_part (subst (λ (s : StoreTold). IsOwn before part s worker.new) same_old each.0)
+      subst (λ (p : WorkerPart). IsOwn bytes before p worker.old worker.new) same_part (subst (λ (s : StoreTold). IsOwn bytes before part s worker.new) same_old each.0)
     where
       some_is : (x y : WorkerPart) → Some x ≡ Some y → x ≡ y
       some_is x y e = cc
@@ -171,7 +171,7 @@ module _ (before : DeskTold) where
 
   -- as many pages as the part's issues, where each issue is finished
   pub record Moved (part : WorkerPart) (old new : StoreTold) : Type 0 where
-    pub own : IsOwn before part old new
+    pub own : IsOwn bytes before part old new
     pub moved : IsMoved part old new
     pub reads : reads_of part.directives ≡ length (flat_map page_read part.directives)
     pub writes : writes_of part.directives ≡ length (flat_map page_written part.directives)
@@ -210,11 +210,11 @@ sound_moved [] [] moved = tt
 sound_moved (own ∷ moves) ((store ∷ []) ∷ shelves) moved = (moved.0.faults, sound_moved moves shelves moved.1)
 sound_moved _ _ moved = absurd moved
 
-sound_fresh : (before : DeskTold) (parts : List WorkerPart) (fresh shelves : List (List StoreTold)) → Each (IsOwn before) parts fresh shelves → AreSound fresh
-sound_fresh before [] [] [] each = tt
-sound_fresh before (part ∷ parts) ((old ∷ []) ∷ fresh) ((new ∷ []) ∷ shelves) each =
-    (ap (λ (store : StoreTold). store.faults) each.0.fresh, sound_fresh before parts fresh shelves each.1)
-sound_fresh before _ _ _ each = absurd each
+sound_fresh : (bytes : ℕ) (before : DeskTold) (parts : List WorkerPart) (fresh shelves : List (List StoreTold)) → Each (IsOwn bytes before) parts fresh shelves → AreSound fresh
+sound_fresh bytes before [] [] [] each = tt
+sound_fresh bytes before (part ∷ parts) ((old ∷ []) ∷ fresh) ((new ∷ []) ∷ shelves) each =
+    (ap (λ (store : StoreTold). store.faults) each.0.fresh, sound_fresh bytes before parts fresh shelves each.1)
+sound_fresh bytes before _ _ _ each = absurd each
 
 -- so the faults that came back of a worker's stores don't rise
 sound_at : (shelves : List (List StoreTold)) → AreSound shelves → (returned : Returned) (w : ℕ) → (with_shelf returned (shelf_at shelves w)).faults ≤ returned.faults
@@ -289,8 +289,8 @@ told_pages : (tells : Bool) (pages : Option Pages) (own : Pages) → pages ≡ c
 told_pages true pages own is tells = rw is refl
 told_pages false pages own is tells = absurd (cc)
 
-module _ (before : DeskTold) (steady : IsTrue before.steady) (tells : IsTrue before.stores_tell_pages) where
-  suffice : (parts : List WorkerPart) (fresh shelves : List (List StoreTold)) → Each (IsOwn before) parts fresh shelves → lowest own_fault parts ≡ None → AllSuffice parts fresh
+module _ (bytes : ℕ) (before : DeskTold) (steady : IsTrue before.steady) (tells : IsTrue before.stores_tell_pages) where
+  suffice : (parts : List WorkerPart) (fresh shelves : List (List StoreTold)) → Each (IsOwn bytes before) parts fresh shelves → lowest own_fault parts ≡ None → AllSuffice parts fresh
   suffice [] [] [] each none = nothing where
     nothing : (w : ℕ) → IfSome (slice_get [] w) (λ (part : WorkerPart). IfSome (slice_get [] w) (All (SufficesFor part)))
     nothing zero = tt
@@ -298,7 +298,7 @@ module _ (before : DeskTold) (steady : IsTrue before.steady) (tells : IsTrue bef
   suffice (part ∷ parts) ((old ∷ []) ∷ fresh) ((new ∷ []) ∷ shelves) each none =
       at (suffice parts fresh shelves each.1 (none_second (own_fault part) (lowest own_fault parts) none))
     where
-      own : IsOwn before part old new
+      own : IsOwn bytes before part old new
       own = each.0
 
       as_lent : IsTrue old.steady × (old.page_count ≡ part.pages)
@@ -321,51 +321,51 @@ module _ (before : DeskTold) (steady : IsTrue before.steady) (tells : IsTrue bef
 
 -- ---- what a run leaves
 
-module _ (before after : DeskTold) (parts : List WorkerPart) (fresh shelves : List (List StoreTold))
-    (lent : AreLent before (orders_of parts) fresh) (shape : counts shelves ≡ counts fresh) (grown : HaveGrown parts fresh shelves)
+module _ (bytes : ℕ) (before after : DeskTold) (parts : List WorkerPart) (fresh shelves : List (List StoreTold))
+    (lent : AreLent before (orders_of bytes parts) fresh) (shape : counts shelves ≡ counts fresh) (grown : HaveGrown parts fresh shelves)
     (back : AreBack before.lent before after shelves)
   where
-    own : Each (IsOwn before) parts fresh shelves
-    own = each_own before parts fresh shelves lent shape
+    own : Each (IsOwn bytes before) parts fresh shelves
+    own = each_own bytes before parts fresh shelves lent shape
 
     pub given : GivesBack shelves before after
     given = record {
-      own = of_desk before parts fresh shelves (each_too (IsOwn before) (λ part old new. Grew old new) parts fresh shelves own grown);
+      own = of_desk bytes before parts fresh shelves (each_too (IsOwn bytes before) (λ part old new. Grew old new) parts fresh shelves own grown);
       back = back;
     }
 
     pub as_many : length shelves ≡ length parts
-    as_many = same_count parts fresh shelves (IsOwn before) own
+    as_many = same_count parts fresh shelves (IsOwn bytes before) own
 
     pub has_broken : (w : ℕ) → HasBroken parts fresh shelves w → desk.HasBroken shelves w
     has_broken w broken =
-        let old = own_at before parts fresh shelves own w broken.0 in
+        let old = own_at bytes before parts fresh shelves own w broken.0 in
         let none = ap (λ (store : StoreTold). store.faults) old.fresh in
         let rose = broken.2 in
         record { store = broken.0.new; of_worker = broken.0.new_so; failed = omega (arith, none, rose) }
 
     pub has_damaged : (w : ℕ) (damage : Damage) → HasDamaged parts fresh shelves w damage → desk.HasDamaged before shelves w damage
     has_damaged w damage damaged =
-        let old = own_at before parts fresh shelves own w damaged.0 in
+        let old = own_at bytes before parts fresh shelves own w damaged.0 in
         record {
-          untold = untold_of before damaged.0.part damaged.0.old damaged.0.new old damaged.1.untold;
+          untold = untold_of bytes before damaged.0.part damaged.0.old damaged.0.new old damaged.1.untold;
           store = damaged.0.new;
           of_worker = damaged.0.new_so;
           made = damaged.1.made;
-          made_so = made_of before damaged.0.part damaged.0.old damaged.0.new damaged.1.made old damaged.1.gained;
+          made_so = made_of bytes before damaged.0.part damaged.0.old damaged.0.new damaged.1.made old damaged.1.gained;
           ends = damaged.1.ends;
         }
 
     pub were_deceived : solo.WereDeceived parts fresh shelves → desk.WereDeceived before shelves
     were_deceived deceived =
-        let old = own_at before parts fresh shelves own deceived.number deceived.worker in
+        let old = own_at bytes before parts fresh shelves own deceived.number deceived.worker in
         record {
-          untold = untold_of before deceived.worker.part deceived.worker.old deceived.worker.new old deceived.untold;
+          untold = untold_of bytes before deceived.worker.part deceived.worker.old deceived.worker.new old deceived.untold;
           worker = deceived.number;
           store = deceived.worker.new;
           of_worker = deceived.worker.new_so;
           made = deceived.made;
-          made_so = made_of before deceived.worker.part deceived.worker.old deceived.worker.new deceived.made old deceived.gained;
+          made_so = made_of bytes before deceived.worker.part deceived.worker.old deceived.worker.new deceived.made old deceived.gained;
           page = deceived.page;
           forged = deceived.forged;
         }
@@ -394,12 +394,12 @@ module _ (before after : DeskTold) (parts : List WorkerPart) (fresh shelves : Li
 
     -- nor where they are as they were lent
     pub sound_unused : shelves ≡ fresh → AreSound shelves
-    sound_unused same = subst AreSound (sym same) (sound_fresh before parts fresh shelves own)
+    sound_unused same = subst AreSound (sym same) (sound_fresh bytes before parts fresh shelves own)
 
     -- nor where all were moved
     pub sound_used : AreMoved parts fresh shelves → AreSound shelves
-    sound_used moved = sound_each parts fresh shelves (each_too (IsOwn before) IsMoved parts fresh shelves own moved) where
-      sound_each : (parts : List WorkerPart) (fresh shelves : List (List StoreTold)) → Each (λ part old new. IsOwn before part old new × IsMoved part old new) parts fresh shelves → AreSound shelves
+    sound_used moved = sound_each parts fresh shelves (each_too (IsOwn bytes before) IsMoved parts fresh shelves own moved) where
+      sound_each : (parts : List WorkerPart) (fresh shelves : List (List StoreTold)) → Each (λ part old new. IsOwn bytes before part old new × IsMoved part old new) parts fresh shelves → AreSound shelves
       sound_each [] [] [] each = tt
       sound_each (part ∷ parts) ((old ∷ []) ∷ fresh) ((new ∷ []) ∷ shelves) each =
           (each.0.1.faults ∙ ap (λ (store : StoreTold). store.faults) each.0.0.fresh, sound_each parts fresh shelves each.1)
@@ -407,15 +407,15 @@ module _ (before after : DeskTold) (parts : List WorkerPart) (fresh shelves : Li
 
     pub all_suffice : AreVerified parts → IsTrue before.steady → IsTrue before.stores_tell_pages → AllSuffice parts fresh
     all_suffice verified steady tells =
-        suffice before steady tells parts fresh shelves own (none_first (lowest own_fault parts) (joint_fault (map (λ part. part.directives) parts)) verified.none)
+        suffice bytes before steady tells parts fresh shelves own (none_first (lowest own_fault parts) (joint_fault (map (λ part. part.directives) parts)) verified.none)
 
     -- each store was moved as often as its part issues reads and writes
     pub all_moved : AreVerified parts → AreMoved parts fresh shelves → HaveMoved (moves_of_parts parts) shelves
     all_moved verified moved =
-        have_moved before parts fresh shelves (all parts fresh shelves own moved (none_first (lowest own_fault parts) (joint_fault (map (λ part. part.directives) parts)) verified.none))
+        have_moved bytes before parts fresh shelves (all parts fresh shelves own moved (none_first (lowest own_fault parts) (joint_fault (map (λ part. part.directives) parts)) verified.none))
       where
-        all : (parts : List WorkerPart) (fresh shelves : List (List StoreTold)) → Each (IsOwn before) parts fresh shelves → AreMoved parts fresh shelves
-            → lowest own_fault parts ≡ None → Each (Moved before) parts fresh shelves
+        all : (parts : List WorkerPart) (fresh shelves : List (List StoreTold)) → Each (IsOwn bytes before) parts fresh shelves → AreMoved parts fresh shelves
+            → lowest own_fault parts ≡ None → Each (Moved bytes before) parts fresh shelves
         all [] [] [] each moved none = tt
         all (part ∷ parts) ((old ∷ []) ∷ fresh) ((new ∷ []) ∷ shelves) each moved none =
             let finishes = finishes_all part (Runs-from_none part (none_first (own_fault part) (lowest own_fault parts) none)) in (

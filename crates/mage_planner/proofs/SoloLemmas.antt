@@ -34,16 +34,16 @@ use Rattle.mage_planner.specs.Outcome.{Found, Done, found_in, file_at, file_name
 use Rattle.mage_planner.specs.Work.{CanBeRun, IsRunOf}
 use Rattle.mage_planner.proofs.StepLemmas.{solo-all}
 
-same_ok : {X : Type 0} (x y : X) → ◌≡◌ {A = Result X Refusal} (Ok x) (Ok y) → x ≡ y
+pub same_ok : {X : Type 0} (x y : X) → ◌≡◌ {A = Result X Refusal} (Ok x) (Ok y) → x ≡ y
 same_ok x y e = cc
 
 -- the memory program that is given is the one of the passes
-is_given : (r : Result MemProgram PlanFault) (program : MemProgram) → or_limits r ≡ Ok program → r ≡ Ok program
+pub is_given : (r : Result MemProgram PlanFault) (program : MemProgram) → or_limits r ≡ Ok program → r ≡ Ok program
 is_given (Ok x) program e = let same : x ≡ program = same_ok x program e in ap (λ (p : MemProgram). Ok p) same
 is_given (Err fault) program e = absurd (cc)
 
 -- as many numbers as widths
-zip_count : {A B : Type 0} (R : A → B → Type 0) (xs : List A) (ys : List B) → AllZip R xs ys → length xs ≡ length ys
+pub zip_count : {A B : Type 0} (R : A → B → Type 0) (xs : List A) (ys : List B) → AllZip R xs ys → length xs ≡ length ys
 zip_count R [] [] each = refl
 zip_count R [] (y ∷ ys) each = absurd each
 zip_count R (x ∷ xs) [] each = absurd each

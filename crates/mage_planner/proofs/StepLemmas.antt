@@ -213,7 +213,7 @@ deal-seed deal file evaluator seed loaded numbers s read read_too refused =
 -- ---- the same where the desk tells its files
 
 -- what is refused as a step is
-told_so : {T U : Type 0} (steady : Bool) (s : Refusal) (a : Result T Refusal) (b : Result U Refusal)
+pub told_so : {T U : Type 0} (steady : Bool) (s : Refusal) (a : Result T Refusal) (b : Result U Refusal)
     → (a ≡ Err s → b ≡ Err s) → Refuses steady s a → Refuses steady s b
 told_so steady refusal.Desk a b f r = λ sure. f (r sure)
 told_so steady refusal.Memory a b f r = tt

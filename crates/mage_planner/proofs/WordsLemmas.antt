@@ -1,5 +1,5 @@
 -- Only words that ask for nothing come to the refusal of words.
-use Rattle.std.proofs.Common.{◌≡◌, ◌==◌, ℕ, List, [], length, Bool, cond, true, false, Option, Some, None, Result, Ok, Err, ok_or, refl, sym, ap, subst, ◌∙◌, inl, inr, arith}
+use Rattle.std.proofs.Common.{◌≡◌, ◌==◌, ℕ, List, [], length, Bool, cond, not, true, false, Option, Some, None, Result, Ok, Err, ok_or, refl, sym, ap, subst, ◌∙◌, inl, inr, arith}
 use Rattle.mage_chains.specs.Chains.{◌>>=◌}
 use Rattle.mage_base.specs.Desk.{DeskTold}
 use Rattle.mage_instr.specs.declared.party.Party.{Party}
@@ -24,16 +24,16 @@ use Rattle.mage_verify.specs.declared.fault.VerifyFault.TheVariants as verified
 use Rattle.mage_verify.specs.Faults.{fault_of}
 use Rattle.mage_texts.specs.InputText.{inputs_of}
 use Rattle.mage_source_runs.specs.Moves.{moves_of}
-use Rattle.mage_words.specs.Words.{Request, Solo, Stats, Deal, Plan, Check, Upgrade, Gen, SoloRequest, StatsRequest, DealRequest, PlanRequest, CheckRequest, UpgradeRequest, GenRequest, request_of}
+use Rattle.mage_words.specs.Words.{Driver, Plain, Garble, Eval, Request, Solo, Stats, Deal, Plan, Check, Upgrade, Gen, SoloRequest, StatsRequest, DealRequest, PlanRequest, CheckRequest, UpgradeRequest, GenRequest, request_of}
 use Rattle.mage_planner.specs.declared.refusal.Refusal.{Refusal}
 use Rattle.mage_planner.specs.declared.refusal.Refusal.TheVariants as refusal
 use Rattle.mage_planner.specs.declared.status.Status.{Status}
 use Rattle.mage_planner.specs.declared.status.Status.TheVariants as status
 use Rattle.mage_planner.specs.Lines.{status_of}
-use Rattle.mage_planner.specs.Outcome.{File, Absent, Long, Held, Found, Done, SEED_BYTES, says, runs, deals, bytes_or, or_language, or_limits, or_line, long_source, said_of, source_of, costs_of, program_for, if_seed, seed_of, numbers_of, plans, or_file, unless_faulty, long_program, program_of, carry_of, carried_or, first_program_of, renamed_of, upgrades, solo_outcome, stats_outcome, deal_outcome, plan_outcome, check_outcome, upgrade_outcome, gen_outcome, found_for_gen, solo_for, stats_for, generates, generated_files, outcome_for, outcome_of, asked_of, if_built, is_plain}
+use Rattle.mage_planner.specs.Outcome.{File, Absent, Long, Held, Found, Done, SEED_BYTES, says, runs, deals, bytes_or, or_language, or_limits, or_line, long_source, said_of, source_of, costs_of, program_for, if_seed, seed_of, numbers_of, plans, or_file, unless_faulty, long_program, program_of, carry_of, carried_or, first_program_of, renamed_of, upgrades, solo_outcome, stats_outcome, deal_outcome, plan_outcome, check_outcome, upgrade_outcome, gen_outcome, found_for_gen, solo_for, stats_for, generates, generated_files, outcome_for, outcome_of, asked_of, garbles, garble_outcome, driven_outcome, if_built, is_eval}
 use Rattle.mage_planner.specs.SummaryText.{summary_text}
 use Rattle.mage_planner.specs.Warned.{IsOrMemory}
-use Rattle.mage_planner.specs.Answer.{Works, ComesFrom, IsWordsOrMemory, WritesNoFile, RunsNothing}
+use Rattle.mage_planner.specs.Answer.{Works, ComesFrom, IsWordsOrMemory, FillsNoStream, WritesNoFile, RunsNothing}
 
 -- another refusal than that of the words, and none of a store, or none
 abbrev IsOther : Refusal → Type 0
@@ -196,6 +196,20 @@ gen_other gen =
     then_other (stats_outcome (found_for_gen gen) (stats_for gen)) (λ summary. Ok (generates (generated_files gen) summary.said run))
     (stats_other (found_for_gen gen) (stats_for gen)) (λ summary. tt))
 
+garble_other : (found : Found) (limits : Limits) (stream : List ℕ) → NoWords (garble_outcome found limits stream)
+unfolding garble_outcome
+garble_other found limits stream =
+    then_other (source_of found.source) _ (source_other found.source) (λ loaded.
+    then_other (program_for limits loaded) _ (program_other_for limits loaded) (λ program.
+    then_other (numbers_of party.Garbler loaded found.garbler) _ (numbers_other party.Garbler loaded found.garbler) (λ garbler.
+    then_other (seed_of found.seed) (λ seed. Ok (garbles stream loaded.program seed garbler (moves_of program)))
+    (seed_other found.seed) (λ seed. tt))))
+
+driven_other : (driver : Driver) → is_eval driver ≡ false → (found : Found) (solo : SoloRequest) → NoWords (driven_outcome driver found solo)
+driven_other (Plain garbler evaluator) none found solo = solo_other found solo
+driven_other (Garble garbler seed stream) none found solo = garble_other found solo.limits stream
+driven_other (Eval stream labels) none found solo = absurd (cc)
+
 words_only : (outcome : Result Done Refusal) → NoWords outcome → outcome ≡ Err refusal.Words → ⊥
 words_only (Ok done) other e = cc
 words_only (Err why) other e = words_not why other (cc) where
@@ -207,10 +221,11 @@ words_only (Err why) other e = words_not why other (cc) where
 asks_nothing : (found : Found) (asked : Option Request)
     → (ok_or (if_built asked) refusal.Words >>= outcome_for found) ≡ Err refusal.Words → if_built asked ≡ None
 asks_nothing found None e = refl
-asks_nothing found (Some (Solo solo)) e = go (is_plain solo.driver) e where
-  go : (b : Bool) → (ok_or (cond b (Some (Solo solo)) None) refusal.Words >>= outcome_for found) ≡ Err refusal.Words → cond b (Some (Solo solo)) None ≡ None
-  go true e = absurd (words_only (solo_outcome found solo) (solo_other found solo) e)
-  go false e = refl
+asks_nothing found (Some (Solo solo)) e = go (is_eval solo.driver) refl e where
+  go : (b : Bool) → is_eval solo.driver ≡ b → (ok_or (cond (not b) (Some (Solo solo)) None) refusal.Words >>= outcome_for found) ≡ Err refusal.Words
+      → cond (not b) (Some (Solo solo)) None ≡ None
+  go false is e = absurd (words_only (driven_outcome solo.driver found solo) (driven_other solo.driver is found solo) e)
+  go true is e = refl
 asks_nothing found (Some (Stats stats)) e = absurd (words_only (stats_outcome found stats) (stats_other found stats) e)
 asks_nothing found (Some (Deal deal)) e = absurd (words_only (deal_outcome found deal) (deal_other found deal) e)
 asks_nothing found (Some (Plan plan)) e = absurd (words_only (plan_outcome found plan) (plan_other found plan) e)
@@ -285,6 +300,12 @@ solo_writes_none found solo done is =
     let evaluator = then_ok (numbers_of party.Evaluator loaded.0 found.evaluator) _ done garbler.1 in
     bare_too _ done (refl, refl) evaluator.1
 
+-- over a driver that fills no stream
+driven_writes_none : (driver : Driver) (found : Found) (solo : SoloRequest) (done : Done) → FillsNoStream driver → driven_outcome driver found solo ≡ Ok done → IsBare done
+driven_writes_none (Plain garbler evaluator) found solo done none is = solo_writes_none found solo done is
+driven_writes_none (Garble garbler seed stream) found solo done none is = absurd none
+driven_writes_none (Eval stream labels) found solo done none is = absurd (cc)
+
 stats_writes_none : (found : Found) (stats : StatsRequest) (done : Done) → stats_outcome found stats ≡ Ok done → IsBare done
 unfolding stats_outcome
 stats_writes_none found stats done is =
@@ -311,7 +332,7 @@ unfolding outcome_of
 writes_none_of found words done none is = go (asked_of words) none is where
   go : (asked : Option Request) → WritesNoFile asked → (ok_or asked refusal.Words >>= outcome_for found) ≡ Ok done → IsBare done
   go None none is = cc
-  go (Some (Solo solo)) none is = solo_writes_none found solo done is
+  go (Some (Solo solo)) none is = driven_writes_none solo.driver found solo done none is
   go (Some (Stats stats)) none is = stats_writes_none found stats done is
   go (Some (Deal deal)) none is = absurd none
   go (Some (Plan plan)) none is = absurd none
@@ -403,17 +424,17 @@ not_words (refusal.Store worker) of e = cc
 not_words (refusal.Damaged worker damage) of e = cc
 not_words why of e = of
 
-by_driver : (found : Found) (why : Refusal) → IsOfStore why → (solo : SoloRequest) (b : Bool)
-    → (ok_or (cond b (Some (Solo solo)) None) refusal.Words >>= outcome_for found) ≡ Err why → ⊥
-by_driver found why of solo true e = not_store (solo_outcome found solo) (solo_other found solo) why of e
-by_driver found why of solo false e = not_words why of e
+by_driver : (found : Found) (why : Refusal) → IsOfStore why → (solo : SoloRequest) (b : Bool) → is_eval solo.driver ≡ b
+    → (ok_or (cond (not b) (Some (Solo solo)) None) refusal.Words >>= outcome_for found) ≡ Err why → ⊥
+by_driver found why of solo false is e = not_store (driven_outcome solo.driver found solo) (driven_other solo.driver is found solo) why of e
+by_driver found why of solo true is e = not_words why of e
 
 pub no_store_fault : (found : Found) (words : List (List ℕ)) (why : Refusal) → IsOfStore why → outcome_of found words ≡ Err why → ⊥
 unfolding outcome_of
 no_store_fault found words why of e = go (request_of words) e where
   go : (asked : Option Request) → (ok_or (if_built asked) refusal.Words >>= outcome_for found) ≡ Err why → ⊥
   go None e = not_words why of e
-  go (Some (Solo solo)) e = by_driver found why of solo (is_plain solo.driver) e
+  go (Some (Solo solo)) e = by_driver found why of solo (is_eval solo.driver) refl e
   go (Some (Stats stats)) e = not_store (stats_outcome found stats) (stats_other found stats) why of e
   go (Some (Deal deal)) e = not_store (deal_outcome found deal) (deal_other found deal) why of e
   go (Some (Plan plan)) e = not_store (plan_outcome found plan) (plan_other found plan) why of e

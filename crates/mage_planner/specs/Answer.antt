@@ -5,7 +5,7 @@ use Rattle.mage_base.specs.Desk.{DeskTold, Files, files_with}
 use Rattle.mage_base.specs.Faults.{Rose}
 use Rattle.mage_base.specs.Store.{StoreTold}
 use Rattle.mage_source_runs.specs.Moves.{Moves}
-use Rattle.mage_words.specs.Words.{Request, Solo, Stats, Deal, Plan, Check, Upgrade, Gen}
+use Rattle.mage_words.specs.Words.{Driver, Plain, Garble, Eval, Request, Solo, Stats, Deal, Plan, Check, Upgrade, Gen}
 use Rattle.mage_planner.specs.declared.refusal.Refusal.{Refusal}
 use Rattle.mage_planner.specs.declared.refusal.Refusal.TheVariants as refusal
 use Rattle.mage_planner.specs.declared.status.Status.{Status}
@@ -58,6 +58,10 @@ abbrev pub files_of : Result Done Refusal → List NewFile
 files_of (Ok done) = done.streams ++ done.files
 files_of (Err why) = []
 
+abbrev pub streams_of : Result Done Refusal → List NewFile
+streams_of (Ok done) = done.streams
+streams_of (Err why) = []
+
 abbrev pub moves_in : Result Done Refusal → List Moves
 moves_in (Ok done) = done.moves
 moves_in (Err why) = []
@@ -101,12 +105,20 @@ pub record Fails (outcome : Result Done Refusal) (before after : DeskTold) : Typ
   pub right : IsRight before shelves (text_of outcome) text
   pub breaks : BreaksOff text (files_of outcome) between after
 
+-- Streams were closed after a run was stopped: only the count of faults may have risen, and it stays where there are none.
+pub record Closes (streams : List NewFile) (before after : DeskTold) : Type 0 where
+  pub rises : before.faults ≤ after.faults
+  pub calm : streams ≡ [] → after.faults ≡ before.faults
+  pub rest : after ≡ record before { faults = after.faults }
+
 -- what want of memory leaves: it may come whenever a command runs, and while it writes its files
 pub record Stops (outcome : Result Done Refusal) (before after : DeskTold) : Type 0 where
   pub shelves : List (List StoreTold)
   pub between : DeskTold
   pub returns : Returns (length (moves_in outcome)) shelves before between
-  pub ceases : Ceases (files_of outcome) between after
+  pub stopped : DeskTold
+  pub ceases : Ceases (files_of outcome) between stopped
+  pub closes : Closes (streams_of outcome) stopped after
 
 -- what a store's fault leaves: nothing is said, and each file stays that isn't one of the command's
 pub record Breaks (outcome : Result Done Refusal) (worker : ℕ) (before after : DeskTold) : Type 0 where
@@ -115,7 +127,9 @@ pub record Breaks (outcome : Result Done Refusal) (worker : ℕ) (before after :
   pub returns : Returns (length (moves_in outcome)) shelves before between
   pub broken : HasBroken shelves worker
   pub rose : Rose (before.returned worker).faults (after.returned worker).faults
-  pub ceases : Ceases (files_of outcome) between after
+  pub stopped : DeskTold
+  pub ceases : Ceases (files_of outcome) between stopped
+  pub closes : Closes (streams_of outcome) stopped after
 
 -- what a damaged page leaves: the same
 pub record Damages (outcome : Result Done Refusal) (worker : ℕ) (damage : Damage) (before after : DeskTold) : Type 0 where
@@ -123,7 +137,9 @@ pub record Damages (outcome : Result Done Refusal) (worker : ℕ) (damage : Dama
   pub between : DeskTold
   pub returns : Returns (length (moves_in outcome)) shelves before between
   pub damaged : HasDamaged before shelves worker damage
-  pub ceases : Ceases (files_of outcome) between after
+  pub stopped : DeskTold
+  pub ceases : Ceases (files_of outcome) between stopped
+  pub closes : Closes (streams_of outcome) stopped after
 
 -- what a refusal leaves before its line is warned; any other leaves all that the desk tells
 abbrev pub Leaves : Result Done Refusal → Refusal → (before after : DeskTold) → Type 0
@@ -196,10 +212,16 @@ IsWordsOrMemory status.Words = Unit {0}
 IsWordsOrMemory status.Memory = Unit {0}
 IsWordsOrMemory other = ⊥
 
+-- a driver that fills no stream
+abbrev pub FillsNoStream : Driver → Type 0
+FillsNoStream (Plain garbler evaluator) = Unit {0}
+FillsNoStream (Garble garbler seed stream) = ⊥
+FillsNoStream (Eval stream labels) = Unit {0}
+
 -- the words don't ask for a command that writes files
 abbrev pub WritesNoFile : Option Request → Type 0
 WritesNoFile None = Unit {0}
-WritesNoFile (Some (Solo solo)) = Unit {0}
+WritesNoFile (Some (Solo solo)) = FillsNoStream solo.driver
 WritesNoFile (Some (Stats stats)) = Unit {0}
 WritesNoFile (Some (Deal deal)) = ⊥
 WritesNoFile (Some (Plan plan)) = ⊥

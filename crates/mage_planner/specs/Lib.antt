@@ -9,6 +9,7 @@ pub mod Warned
 pub mod Answer
 pub mod Writing
 pub mod Ran
+pub mod Garbled
 pub mod Upgrading
 pub mod Checking
 pub mod Finding

@@ -1,5 +1,5 @@
 -- What a command comes to, in the order of work.
-use Rattle.std.specs.Prelude.{ℕ, Bool, true, false, zero, suc, ◌+◌, ◌==◌, List, [], ◌∷◌, ◌++◌, length, Option, Some, None, Result, Ok, Err, ok_or, nat_lt, codes, if◌then◌else◌}
+use Rattle.std.specs.Prelude.{ℕ, Bool, true, false, not, zero, suc, ◌+◌, ◌==◌, List, [], ◌∷◌, ◌++◌, length, Option, Some, None, Result, Ok, Err, ok_or, nat_lt, codes, if◌then◌else◌}
 use Rattle.std.specs.List.{concat}
 use Rattle.std.specs.Fmt.{decimal}
 use Rattle.mage_base.specs.Desk.{Files}
@@ -19,6 +19,7 @@ use Rattle.mage_meaning.specs.Value.{value_of}
 use Rattle.mage_instr.specs.declared.instr.Program.{Program}
 use Rattle.mage_instr.specs.declared.directive.MemProgram.{MemProgram}
 use Rattle.mage_instr.specs.Inputs.{input_widths_of}
+use Rattle.mage_lending.specs.Names.{worker_file}
 use Rattle.mage_linked.specs.Workers.{list_at}
 use Rattle.mage_carry.specs.declared.carry.Carry.{Carry}
 use Rattle.mage_carry.specs.declared.carry.Carry.TheVariants as carry
@@ -31,7 +32,7 @@ use Rattle.mage_verify.specs.declared.fault.VerifyFault.{VerifyFault}
 use Rattle.mage_verify.specs.declared.fault.VerifyFault.TheVariants as verified
 use Rattle.mage_verify.specs.Faults.{fault_of}
 use Rattle.mage_streams.specs.Garbling.{bytes_of}
-use Rattle.mage_streams.specs.Streams.{dealt_labels}
+use Rattle.mage_streams.specs.Streams.{dealt_labels, garbled_stream}
 use Rattle.mage_texts.specs.InputText.{inputs_of}
 use Rattle.mage_texts.specs.OutputText.{text_of}
 use Rattle.mage_pipe.specs.declared.loaded.Loaded.{Loaded}
@@ -108,12 +109,19 @@ evaluator_of (Plain garbler evaluator) = evaluator
 evaluator_of (Garble garbler seed stream) = None
 evaluator_of (Eval stream labels) = None
 
+-- the file of a driver's seed
+abbrev pub seed_for : Files → Driver → File
+seed_for files (Plain garbler evaluator) = Absent
+seed_for files (Garble garbler seed stream) = file_at files seed SEED_BYTES
+seed_for files (Eval stream labels) = Absent
+
 -- A source is no longer than a text may be, nor a memory program than its file. What a command doesn't read counts as absent.
 abbrev pub found_in : Files → Request → Found
 found_in files (Solo solo) = record nothing_found {
   source = file_at files solo.source MOST_BYTES;
   garbler = file_named files (garbler_of solo.driver) INPUT_LIMIT;
   evaluator = file_named files (evaluator_of solo.driver) INPUT_LIMIT;
+  seed = seed_for files solo.driver;
 }
 found_in files (Stats stats) = record nothing_found { source = file_at files stats.source MOST_BYTES }
 found_in files (Deal deal) = record nothing_found {
@@ -219,7 +227,7 @@ numbers_of whose loaded file = do
 abbrev pub said_of : Loaded → Given → List ℕ
 said_of loaded given = text_of (value_of loaded.source.workers loaded.source.body given)
 
--- what `solo` does: it runs the memory program of the source on the inputs, and says what the source means on them
+-- what `solo` does in plain: it runs the memory program of the source on the inputs, and says what the source means on them
 unfoldable pub solo_outcome : Found → SoloRequest → Result Done Refusal
 solo_outcome found solo = do
   loaded ← source_of found.source
@@ -273,6 +281,35 @@ deal_outcome found deal = do
   evaluator ← numbers_of party.Evaluator loaded found.evaluator
   seed ← seed_of found.seed
   Ok (deals deal.labels loaded.program seed evaluator)
+
+-- The stream file of a worker: its name is the stem, a dot and the worker's number, and it has what the worker's garbler says.
+abbrev pub stream_file : (stem : List ℕ) → Program → (seed : List ℕ) → (garbler : List (List ℕ)) → (worker : ℕ) → NewFile
+stream_file stem program seed garbler worker =
+    record { name = worker_file stem worker; bytes = garbled_stream program seed (list_at garbler) worker }
+
+-- the stream files of so many workers, from this one on
+abbrev pub stream_files : (stem : List ℕ) → Program → (seed : List ℕ) → (garbler : List (List ℕ)) → (first count : ℕ) → List NewFile
+stream_files stem program seed garbler first zero = []
+stream_files stem program seed garbler first (suc count) =
+    stream_file stem program seed garbler first ∷ stream_files stem program seed garbler (first + 1) count
+
+-- it runs a memory program that moves so many pages, and fills the stream file of each worker; it says nothing
+abbrev pub garbles : (stem : List ℕ) → Program → (seed : List ℕ) → (garbler : List (List ℕ)) → List Moves → Done
+garbles stem program seed garbler moves = record {
+  said = [];
+  files = [];
+  streams = stream_files stem program seed garbler 0 (length program.workers);
+  moves = moves;
+}
+
+-- what `solo` does over the garbler: it garbles the memory program of the source on the garbler's inputs
+unfoldable pub garble_outcome : Found → Limits → (stream : List ℕ) → Result Done Refusal
+garble_outcome found limits stream = do
+  loaded ← source_of found.source
+  program ← program_for limits loaded
+  garbler ← numbers_of party.Garbler loaded found.garbler
+  seed ← seed_of found.seed
+  Ok (garbles stream loaded.program seed garbler (moves_of program))
 
 -- ---- memory programs
 
@@ -418,14 +455,14 @@ gen_outcome gen = do
 
 -- ---- the words
 
-abbrev pub is_plain : Driver → Bool
-is_plain (Plain garbler evaluator) = true
-is_plain (Garble garbler seed stream) = false
-is_plain (Eval stream labels) = false
+abbrev pub is_eval : Driver → Bool
+is_eval (Plain garbler evaluator) = false
+is_eval (Garble garbler seed stream) = false
+is_eval (Eval stream labels) = true
 
--- whether a command is built: the other drivers of `solo` are still to come
+-- whether a command is built: the driver `eval` of `solo` is still to come
 abbrev pub is_built : Request → Bool
-is_built (Solo solo) = is_plain solo.driver
+is_built (Solo solo) = not (is_eval solo.driver)
 is_built other = true
 
 abbrev pub if_built : Option Request → Option Request
@@ -436,8 +473,14 @@ if_built (Some request) = if is_built request then Some request else None
 abbrev pub asked_of : List (List ℕ) → Option Request
 asked_of words = if_built (request_of words)
 
+-- what `solo` does over a driver
+abbrev pub driven_outcome : Driver → Found → SoloRequest → Result Done Refusal
+driven_outcome (Plain garbler evaluator) found solo = solo_outcome found solo
+driven_outcome (Garble garbler seed stream) found solo = garble_outcome found solo.limits stream
+driven_outcome (Eval stream labels) found solo = Err refusal.Words
+
 abbrev pub outcome_for : Found → Request → Result Done Refusal
-outcome_for found (Solo solo) = solo_outcome found solo
+outcome_for found (Solo solo) = driven_outcome solo.driver found solo
 outcome_for found (Stats stats) = stats_outcome found stats
 outcome_for found (Deal deal) = deal_outcome found deal
 outcome_for found (Plan plan) = plan_outcome found plan

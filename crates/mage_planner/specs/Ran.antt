@@ -1,8 +1,11 @@
 -- What running a memory program over stores of the desk comes to.
-use Rattle.std.specs.Prelude.{◌≡◌, ◌≤◌, ◌<◌, ◌++◌, ℕ, List, length, map, Vec, Result, Ok, Err}
+use Rattle.std.specs.Prelude.{◌≡◌, ◌≤◌, ◌<◌, ◌*◌, ◌++◌, ℕ, List, length, map, Vec, Option, Some, None, Result, Ok, Err}
 use Rattle.std.specs.declared.alloc.Global.{Global}
+use Rattle.mage_base.specs.declared.failure.DeskError.{DeskError}
+use Rattle.mage_base.specs.declared.failure.DeskError.TheVariants as errors
 use Rattle.mage_base.specs.Desk.{DeskTold}
 use Rattle.mage_base.specs.Faults.{Rose}
+use Rattle.mage_base.specs.Sink.{SinkTold}
 use Rattle.mage_base.specs.Store.{StoreTold}
 use Rattle.mage_texts.specs.Lists.{lists_of}
 use Rattle.mage_texts.specs.OutputText.{text_of}
@@ -10,17 +13,20 @@ use Rattle.mage_verify.specs.Parts.{WorkerPart}
 use Rattle.mage_core.specs.declared.fault.RunFault.{RunFault}
 use Rattle.mage_core.specs.declared.fault.RunFault.TheVariants as fault
 use Rattle.mage_lending.specs.declared.stores.StoreOrder.{StoreOrder}
+use Rattle.mage_lending.specs.Names.{worker_files}
+use Rattle.mage_lending.specs.Sinks.{AreOpened, HaveFiles, with_empty}
 use Rattle.mage_lending.specs.Stores.{AreLent, NoneAreLent, own_stores}
 use Rattle.mage_planner.specs.declared.refusal.Refusal.{Refusal}
 use Rattle.mage_planner.specs.declared.refusal.Refusal.TheVariants as refusal
+use Rattle.mage_planner.specs.declared.work.Garbling.{Garbling}
 use Rattle.mage_planner.specs.Outcome.{Done}
 use Rattle.mage_planner.specs.Answer.{Returns}
 use Rattle.mage_planner.specs.Steps.{RefusalCounted}
 use Rattle.mage_planner.specs.Stores.{GivesBack, HaveMoved, HasBroken, HasDamaged, IsRight}
 
--- the stores that parts need: as many pages as they name, each of as many bytes as it has wires
-abbrev pub orders_of : List WorkerPart → List StoreOrder
-orders_of parts = map (λ part. record { pages = part.pages; page_bytes = part.limits.page }) parts
+-- the stores that parts need, where a wire takes so many bytes: as many pages as they name, each of as many wires as they have
+abbrev pub orders_of : (wire_bytes : ℕ) → List WorkerPart → List StoreOrder
+orders_of wire_bytes parts = map (λ part. record { pages = part.pages; page_bytes = part.limits.page * wire_bytes }) parts
 
 -- what asking for so many stores leaves: they are lent, or none is
 abbrev pub LendsSo : {T : Type 0} → (workers : ℕ) → Result T Refusal → (before after : DeskTold) → Type 0
@@ -31,8 +37,8 @@ LendsSo workers (Err refusal.Memory) before after = NoneAreLent before after wor
 LendsSo workers (Err other) before after = ⊥
 
 -- The desk has lent a store for each part, and is else as it was before.
-pub record HasLent (before : DeskTold) (parts : List WorkerPart) (fresh : List (List StoreTold)) (now : DeskTold) : Type 0 where
-  pub stores : AreLent before (orders_of parts) fresh
+pub record HasLent (wire_bytes : ℕ) (before : DeskTold) (parts : List WorkerPart) (fresh : List (List StoreTold)) (now : DeskTold) : Type 0 where
+  pub stores : AreLent before (orders_of wire_bytes parts) fresh
   pub rest : now ≡ record before { lent = before.lent ++ own_stores 0 (length parts) }
 
 -- why a run stopped that asked for the stores of so many workers
@@ -78,3 +84,33 @@ IsUnbroken other = Unit {0}
 abbrev pub RanSo : Done → Result (Vec ℕ Global) Refusal → (before after : DeskTold) → Type 0
 RanSo done (Ok text) before after = Ran done text.items before after
 RanSo done (Err why) before after = Halted (length done.moves) why before after
+
+-- The desk has lent a store for each part, and each worker's stream file is open and empty; it is else as it was before.
+pub record HasOpened (before : DeskTold) (garbling : Garbling) (fresh : List (List StoreTold)) (names : List (List ℕ)) (sinks : List SinkTold) (now : DeskTold) :
+    Type 0 where
+  pub stores : AreLent before (orders_of 16 garbling.parts.items) fresh
+  pub named : names ≡ worker_files garbling.stream.now 0 (length garbling.rooms.items)
+  pub handed : AreOpened before garbling.rooms.items sinks
+  pub there : HaveFiles now.files names
+  pub rest : now ≡ record before {
+    files = with_empty before.files names;
+    lent = before.lent ++ own_stores 0 (length garbling.parts.items);
+  }
+
+-- the refusal of what stopped a run that garbled: a fault of a driver is one of its sink, and so the desk's
+abbrev pub stopped_by : RunFault → Refusal
+stopped_by (fault.Store worker) = refusal.Store worker
+stopped_by (fault.Damaged worker damage) = refusal.Damaged worker damage
+stopped_by (fault.Driver worker f) = refusal.Desk
+stopped_by fault.Memory = refusal.Memory
+
+-- the refusal of what kept its streams from being opened
+abbrev pub unopened_by : DeskError → Refusal
+unopened_by errors.Memory = refusal.Memory
+unopened_by other = refusal.Desk
+
+-- what such a run comes to, with what closing its streams came to: the run's fault came first
+abbrev pub ended_so : {T E : Type 0} → Option RunFault → Result T E → Result T Refusal
+ended_so (Some stopped) closed = Err (stopped_by stopped)
+ended_so None (Ok x) = Ok x
+ended_so None (Err e) = Err refusal.Desk

@@ -26,6 +26,12 @@ abbrev pub StepCounted : {T : Type 0} → (before now : ℕ) → Result T Refusa
 StepCounted before now (Ok x) = now ≡ before
 StepCounted before now (Err other) = RefusalCounted before now other
 
+-- The same of the whole work: where a run is stopped, closing its streams may raise the count too.
+abbrev pub WorkCounted : {T : Type 0} → (before now : ℕ) → Result T Refusal → Type 0
+WorkCounted before now (Ok x) = now ≡ before
+WorkCounted before now (Err refusal.Desk) = (before ≤ now) × Rose before now
+WorkCounted before now (Err other) = before ≤ now
+
 -- a refusal other than a fault of the desk or of its stores
 abbrev pub IsNotDesk : Refusal → Type 0
 IsNotDesk refusal.Desk = ⊥

@@ -1,5 +1,5 @@
 -- What the code's work does.
-use Rattle.std.specs.Prelude.{◌≡◌, ◌≤◌, ℕ, List, [], ◌∷◌, length, Bool, Result, Ok, Err, codes}
+use Rattle.std.specs.Prelude.{◌≡◌, ◌≤◌, ℕ, List, [], ◌∷◌, length, map, Bool, Result, Ok, Err, codes}
 use Rattle.mage_gen.specs.declared.order.Generated.{Generated}
 use Rattle.mage_gen.specs.Generator.{garbler_text, evaluator_text}
 use Rattle.mage_gen.specs.Source.{source_text}
@@ -17,15 +17,17 @@ use Rattle.mage_pipe.specs.declared.loaded.Loaded.{Loaded}
 use Rattle.mage_pipe.specs.Loading.{loaded_of}
 use Rattle.mage_pipe.specs.MemoryProgram.{memory_program_of}
 use Rattle.mage_source_runs.specs.Moves.{moves_of}
+use Rattle.mage_stream_length.specs.Length.{length_of}
 use Rattle.mage_words.specs.Words.{GenRequest}
 use Rattle.mage_planner.specs.declared.refusal.Refusal.{Refusal}
 use Rattle.mage_planner.specs.declared.work.Work as code
 use Rattle.mage_planner.specs.declared.work.Work.TheVariants as work
 use Rattle.mage_planner.specs.declared.work.Dealing.{Dealing}
+use Rattle.mage_planner.specs.declared.work.Garbling.{Garbling}
 use Rattle.mage_planner.specs.declared.work.Generating.{Generating}
 use Rattle.mage_planner.specs.declared.work.Running.{Running}
 use Rattle.mage_planner.specs.declared.work.Writing.{Writing}
-use Rattle.mage_planner.specs.Outcome.{Done, NewFile, says, says_and_writes, runs, said_of, deals, label_file, ending_file, order_of, generates}
+use Rattle.mage_planner.specs.Outcome.{Done, NewFile, says, says_and_writes, runs, garbles, said_of, deals, label_file, ending_file, order_of, generates}
 use Rattle.mage_planner.specs.Steps.{Refuses}
 
 -- what is dealt
@@ -61,6 +63,21 @@ pub record AreMade (gen : GenRequest) (made : Generated) : Type 0 where
   pub garbler : made.garbler.items ≡ garbler_text (order_of gen)
   pub evaluator : made.evaluator.items ≡ evaluator_text (order_of gen)
 
+-- A garbling does this: its parts are those of a source's memory program, its inputs are as wide as the source asks for, and the rooms of
+-- its streams are as long as these can be.
+pub record IsGarblingOf (garbling : Garbling) (done : Done) : Type 0 where
+  pub limits : Limits
+  pub text : List ℕ
+  pub loaded : Loaded
+  pub plan : MemProgram
+  pub in_range : AreInRange limits
+  pub loads : loaded_of text ≡ Ok loaded
+  pub planned : memory_program_of limits loaded.program.workers ≡ Ok plan
+  pub parts : garbling.parts.items ≡ parts_of plan
+  pub garbler : FitWidths (input_widths_of party.Garbler loaded.program) (lists_of garbling.garbler.items)
+  pub rooms : garbling.rooms.items ≡ map length_of loaded.program.workers
+  pub is : done ≡ garbles garbling.stream.now loaded.program garbling.seed (lists_of garbling.garbler.items) (moves_of plan)
+
 -- the files that are generated
 abbrev pub files_by : Generating → List NewFile
 files_by generating =
@@ -81,6 +98,7 @@ IsWorkOf (work.Say text) done = done ≡ says text.items
 IsWorkOf (work.Deal dealing) done = done ≡ dealt_by dealing
 IsWorkOf (work.Write writing) done = done ≡ written_by writing
 IsWorkOf (work.Run running) done = IsRunOf running done
+IsWorkOf (work.Garble garbling) done = IsGarblingOf garbling done
 IsWorkOf (work.Generate generating) done = IsGenerationOf generating done
 
 -- what is found out does what a command comes to, or the command is refused
@@ -94,10 +112,17 @@ pub record CanBeRun (running : Running) : Type 0 where
   pub garbler : length running.garbler.items ≡ length running.parts.items
   pub evaluator : length running.evaluator.items ≡ length running.parts.items
 
+-- the same of what is garbled
+pub record CanBeGarbled (garbling : Garbling) : Type 0 where
+  pub verified : AreVerified garbling.parts.items
+  pub garbler : length garbling.garbler.items ≡ length garbling.parts.items
+  pub rooms : length garbling.rooms.items ≡ length garbling.parts.items
+
 -- what is dealt is dealt to few workers, and what is run can be run
 abbrev pub CanBeDone : code.Work → Type 0
 CanBeDone (work.Say text) = Unit {0}
 CanBeDone (work.Deal dealing) = length dealing.program.workers ≤ most_workers
 CanBeDone (work.Write writing) = Unit {0}
 CanBeDone (work.Run running) = CanBeRun running
+CanBeDone (work.Garble garbling) = CanBeGarbled garbling
 CanBeDone (work.Generate generating) = CanBeRun generating.running

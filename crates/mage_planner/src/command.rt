@@ -2,32 +2,35 @@
 ghost use Rattle.std.specs.Prelude.{◌≡◌, ◌≤◌, ℕ, Bool, Result, Some, length, ok_or, true, IfSome, IfOk};
 ghost use Rattle.mage_instr.specs.Opcodes.{most_workers};
 ghost use Rattle.mage_words.specs.Words.{LimitsAreInRange, NumbersAreInRange, bytes_of_words};
-ghost use Rattle.mage_words.specs.Answers.{driver_view, request_view};
-ghost use Rattle.mage_planner.specs.Outcome.{Done, Found, asked_of, found_in, if_built, is_built, is_plain, says, outcome_for, outcome_of, outcome_in};
+ghost use Rattle.mage_instr.specs.Limits.{AreInRange};
+ghost use Rattle.mage_words.specs.Answers.{driver_view, request_view, solo_view};
+ghost use Rattle.mage_words.specs.Words as words;
+ghost use Rattle.mage_planner.specs.Outcome.{Done, Found, asked_of, found_in, driven_outcome, if_built, is_built, is_eval, says, outcome_for, outcome_of, outcome_in};
 ghost use Rattle.mage_planner.specs.Steps.{Gives, StepCounted, IsNoDeskFault};
-ghost use Rattle.mage_planner.specs.Work.{CanBeDone, CanBeRun, GivesSo, IsGenerationOf, IsRunOf, IsWorkOf, dealt_by, written_by};
+ghost use Rattle.mage_planner.specs.Work.{CanBeDone, CanBeGarbled, CanBeRun, GivesSo, IsGarblingOf, IsGenerationOf, IsRunOf, IsWorkOf, dealt_by, written_by};
 
 use crate::Refusal;
 use crate::check::check;
 use crate::deal::deal;
+use crate::garble::{GarbleRequest, garble};
 use crate::generated::generated;
 use crate::plan::plan;
 use crate::solo::solo;
 use crate::stats::stats;
 use crate::upgrade::upgrade;
-use crate::work::{Dealing, Generating, Running, Work, Writing};
+use crate::work::{Dealing, Garbling, Generating, Running, Work, Writing};
 use mage_base::Desk;
-use mage_words::{Driver, Request, WordsFault, read_words};
+use mage_words::{Driver, Request, Solo, WordsFault, read_words};
 use std::alloc::Global;
 
-// Whether `solo` is to run in plain.
-fn is_plain(driver: Driver<'_>) -> bool
-    ensures { result ≡ is_plain (driver_view driver.entry) }
+// Whether `solo` is to evaluate.
+fn is_eval(driver: Driver<'_>) -> bool
+    ensures { result ≡ is_eval (driver_view driver.entry) }
 {
     match driver {
-        Driver::Plain { .. } => true,
+        Driver::Plain { .. } => false,
         Driver::Garble { .. } => false,
-        Driver::Eval { .. } => false,
+        Driver::Eval { .. } => true,
     }
 }
 
@@ -36,7 +39,7 @@ fn is_built(request: Request<'_>) -> bool
     ensures { result ≡ is_built (request_view request.entry) }
 {
     match request {
-        Request::Solo(solo) => is_plain(solo.driver),
+        Request::Solo(solo) => !is_eval(solo.driver),
         Request::Stats(_) => true,
         Request::Deal(_) => true,
         Request::Plan(_) => true,
@@ -80,6 +83,39 @@ fn asked(alloc: Global, words: &[String]) -> Result<Request<'_>, Refusal>
     }
 }
 
+// What `solo` comes to over its driver.
+fn driven<'a, D: Desk>(alloc: Global, request: Solo<'a>, desk: &mut D) -> Result<Work<'a>, Refusal>
+    requires limits { AreInRange request.limits }
+    ensures told { IfSome (D.tells desk.old).files (λ files. GivesSo (D.tells desk.old).steady
+        IsWorkOf result (driven_outcome (solo_view request.entry).driver
+        (found_in files (words.Solo (solo_view request.entry))) (solo_view request.entry))) }
+    ensures some { (found : Found) × GivesSo true IsWorkOf result (driven_outcome
+        (solo_view request.entry).driver found (solo_view request.entry)) }
+    ensures can { IfOk result CanBeDone }
+    ensures cause { StepCounted (D.tells desk.old).faults (D.tells desk.new).faults result }
+    ensures rest { D.tells desk.new
+        ≡ record (D.tells desk.old) { faults = (D.tells desk.new).faults } }
+{
+    match request.driver {
+        Driver::Plain { .. } => to_run(solo(alloc, request, desk)),
+        Driver::Garble {
+            garbler,
+            seed,
+            stream,
+        } => {
+            let request = GarbleRequest {
+                source: request.source,
+                limits: request.limits,
+                garbler,
+                seed,
+                stream,
+            };
+            to_garble(garble(alloc, request, desk))
+        }
+        Driver::Eval { .. } => Err(Refusal::Words),
+    }
+}
+
 // What a request comes to.
 fn answer<'a, D: Desk>(
     alloc: Global,
@@ -99,7 +135,7 @@ fn answer<'a, D: Desk>(
         ≡ record (D.tells desk.old) { faults = (D.tells desk.new).faults } }
 {
     match request {
-        Request::Solo(request) => to_run(solo(alloc, request, desk)),
+        Request::Solo(request) => driven(alloc, request, desk),
         Request::Stats(request) => said(stats(alloc, request, desk)),
         Request::Deal(request) => dealt(deal(alloc, request, desk)),
         Request::Plan(request) => written(plan(alloc, request, desk)),
@@ -177,6 +213,22 @@ fn to_generate<'a>(generating: Result<Generating<'a>, Refusal>) -> Result<Work<'
 {
     match generating {
         Ok(generating) => Ok(Work::Generate(generating)),
+        Err(refusal) => Err(refusal),
+    }
+}
+
+// A memory program is to be garbled.
+fn to_garble<'a>(garbling: Result<Garbling<'a>, Refusal>) -> Result<Work<'a>, Refusal>
+    requires { IfOk garbling CanBeGarbled }
+    ensures gives { (steady : Bool) (outcome : Result Done Refusal)
+        → GivesSo steady IsGarblingOf garbling.entry outcome
+        → GivesSo steady IsWorkOf result outcome }
+    ensures counts { (before now : ℕ) → StepCounted before now garbling.entry
+        → StepCounted before now result }
+    ensures can { IfOk result CanBeDone }
+{
+    match garbling {
+        Ok(garbling) => Ok(Work::Garble(garbling)),
         Err(refusal) => Err(refusal),
     }
 }

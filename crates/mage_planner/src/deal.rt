@@ -53,9 +53,9 @@ fn seed_in(bytes: &[u8]) -> Result<[u8; 32], Refusal>
     Ok(seed)
 }
 
-// The seed that a file has.
+/// The seed that a file has.
 #[tactic(auto, unfolding(crate::specs::Outcome::seed_of))]
-fn read_seed<D: Desk>(alloc: Global, desk: &mut D, name: &str) -> Result<[u8; 32], Refusal>
+pub fn read_seed<D: Desk>(alloc: Global, desk: &mut D, name: &str) -> Result<[u8; 32], Refusal>
     ensures told { IfSome (D.tells desk.old).files (λ files. Gives (D.tells desk.old).steady
         (λ seed. seed) result (seed_of (file_at files name.now SEED_BYTES))) }
     ensures some { (file : File) × Gives true (λ seed. seed) result (seed_of file) }

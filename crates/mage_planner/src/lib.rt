@@ -6,6 +6,8 @@ mod code;
 mod command;
 mod deal;
 mod files;
+mod garble;
+mod garbling;
 mod generated;
 mod generating;
 mod inputs;

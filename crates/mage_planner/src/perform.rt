@@ -8,6 +8,7 @@ ghost use Rattle.mage_planner.specs.Writing.{Finished, Performs};
 
 use crate::Refusal;
 use crate::files::write_file;
+use crate::garbling::garble;
 use crate::generating::generate;
 use crate::labels::deal_labels;
 use crate::running::run;
@@ -61,8 +62,9 @@ pub fn perform<D: Desk>(alloc: Global, desk: &mut D, work: Work<'_>) -> Result<(
     ensures performs { (done : Done) → IsWorkOf work.entry done
         → Performs done result (D.tells desk.old) (D.tells desk.new) }
     ensures steady { (done : Done) → IsWorkOf work.entry done → IsTrue (D.tells desk.old).steady
-        → (done.moves ≢ [] → IsTrue (D.tells desk.old).stores_tell_pages)
-        → length done.said ≤ (D.tells desk.old).room → IsNoDeskFault result }
+        → (done.moves ≢ [] → IsTrue (D.tells desk.old).stores_tell_pages) → done.streams ≡ []
+        → length done.said ≤ (D.tells desk.old).room → IsNoDeskFault result
+        × ((D.tells desk.new).faults ≡ (D.tells desk.old).faults) }
     ensures sound { IsNoDeskFault result → StoresAreSound (D.tells desk.old) (D.tells desk.new) }
 {
     match work {
@@ -70,6 +72,7 @@ pub fn perform<D: Desk>(alloc: Global, desk: &mut D, work: Work<'_>) -> Result<(
         Work::Deal(dealing) => deal_labels(alloc, desk, &dealing),
         Work::Write(writing) => write_and_say(alloc, desk, &writing),
         Work::Run(running) => run_and_say(alloc, desk, running),
+        Work::Garble(garbling) => garble(alloc, desk, garbling),
         Work::Generate(generating) => generate(alloc, desk, generating),
     }
 }

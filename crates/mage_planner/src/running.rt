@@ -1,5 +1,5 @@
 // A memory program is run over stores of the desk.
-ghost use Rattle.std.specs.Prelude.{◌≡◌, ◌≤◌, ℕ, length, map, IsTrue, IfOk, IfErr};
+ghost use Rattle.std.specs.Prelude.{◌≡◌, ◌≤◌, ◌*◌, ℕ, All, length, map, IsTrue, IfOk, IfErr};
 ghost use Rattle.mage_base.specs.Desk.{DeskTold};
 ghost use Rattle.mage_lending.specs.Stores.{AreLent, told_on};
 ghost use Rattle.mage_texts.specs.Lists.{lists_of};
@@ -20,30 +20,39 @@ use mage_texts::output_text;
 use mage_verify::Part;
 use std::alloc::Global;
 
-// The store that a part needs: a wire takes a byte.
-fn order_of(part: &Part) -> StoreOrder
-    ensures { result ≡ record { pages = part.now.pages; page_bytes = part.now.limits.page } }
+// The store that a part needs, where a wire takes so many bytes.
+fn order_of(part: &Part, wire_bytes: u32) -> StoreOrder
+    requires page { part.now.limits.page ≤ 65536 }
+    requires few { wire_bytes ≤ 16 }
+    ensures { result ≡ record {
+      pages = part.now.pages;
+      page_bytes = part.now.limits.page * wire_bytes;
+    } }
 {
     StoreOrder {
         pages: part.store_pages(),
-        page_bytes: part.limits().page,
+        page_bytes: part.limits().page * wire_bytes,
     }
 }
 
-// The same of each part.
-fn orders_of(alloc: Global, parts: &[Part]) -> Result<Vec<StoreOrder>, Refusal>
-    ensures orders { IfOk result (λ orders. orders.items ≡ orders_of parts.now) }
+/// The stores that parts need, where a wire takes so many bytes.
+pub fn orders_of(alloc: Global, parts: &[Part], wire_bytes: u32) -> Result<Vec<StoreOrder>, Refusal>
+    requires pages { All (λ part. part.limits.page ≤ 65536) parts.now }
+    requires few { wire_bytes ≤ 16 }
+    ensures orders { IfOk result (λ orders. orders.items ≡ orders_of wire_bytes parts.now) }
     ensures memory { IfErr result (λ why. why ≡ Refusal.Memory) }
 {
     let mut orders = Vec::new(alloc);
     for part in parts {
-        orders.push(order_of(part)).map_err(|_| Refusal::Memory)?;
+        orders
+            .push(order_of(part, wire_bytes))
+            .map_err(|_| Refusal::Memory)?;
     }
     Ok(orders)
 }
 
-// The stores of all workers, each on a shelf of its own.
-fn lend<D: Desk>(
+/// The stores of all workers, each on a shelf of its own.
+pub fn lend<D: Desk>(
     alloc: Global,
     desk: &mut D,
     orders: &[StoreOrder],
@@ -69,15 +78,15 @@ fn run_over<D: Desk>(
     stores: Vec<Vec<D::Pages>>,
 ) -> Result<Vec<Vec<u128>>, RunFault>
     requires can { CanBeRun running }
-    requires lent { (before : DeskTold) × HasLent before running.parts.items
+    requires lent { (before : DeskTold) × HasLent 1 before running.parts.items
         (told_on D.Pages.tells stores.items) (D.tells desk.old) }
     ensures ends { (done : Done) (before : DeskTold) → IsRunOf running done
-        → HasLent before running.parts.items (told_on D.Pages.tells stores.items)
+        → HasLent 1 before running.parts.items (told_on D.Pages.tells stores.items)
         (D.tells desk.old) → EndsSo done result before (D.tells desk.new) }
-    ensures sound { (before : DeskTold) → HasLent before running.parts.items
+    ensures sound { (before : DeskTold) → HasLent 1 before running.parts.items
         (told_on D.Pages.tells stores.items) (D.tells desk.old)
         → IsUnbroken result → StoresAreSound before (D.tells desk.new) }
-    ensures steady { (before : DeskTold) → HasLent before running.parts.items
+    ensures steady { (before : DeskTold) → HasLent 1 before running.parts.items
         (told_on D.Pages.tells stores.items) (D.tells desk.old)
         → IsTrue before.steady → IsTrue before.stores_tell_pages → IsUnbroken result }
 {
@@ -130,7 +139,7 @@ pub fn run<D: Desk>(alloc: Global, desk: &mut D, running: Running) -> Result<Vec
         → IsTrue (D.tells desk.old).stores_tell_pages → IsNoDeskFault result }
     ensures sound { IsNoDeskFault result → StoresAreSound (D.tells desk.old) (D.tells desk.new) }
 {
-    let orders = orders_of(alloc, &running.parts)?;
+    let orders = orders_of(alloc, &running.parts, 1)?;
     let stores = lend(alloc, desk, &orders)?;
     let outcome = run_over(alloc, desk, running, stores);
     said(alloc, outcome)

@@ -1,5 +1,5 @@
 // The top call.
-ghost use Rattle.std.specs.Prelude.{◌≡◌, ◌≢◌, ◌≤◌, ℕ, length, None, true, IsTrue, IfSome};
+ghost use Rattle.std.specs.Prelude.{◌≡◌, ◌≢◌, ◌≤◌, [], ℕ, length, None, true, IsTrue, IfSome};
 ghost use Rattle.mage_base.specs.Faults.{Rose};
 ghost use Rattle.mage_words.specs.Words.{bytes_of_words};
 ghost use Rattle.mage_parser.specs.Laws.{ReadingIsTheGrammar};
@@ -11,9 +11,9 @@ ghost use Rattle.mage_planner.specs.Checking.{PlansAreCarried};
 ghost use Rattle.mage_planner.specs.Finding.{GeneratedFilesAreFound};
 ghost use Rattle.mage_planner.specs.Lines.{line_of};
 ghost use Rattle.mage_planner.specs.Outcome.{Found, asked_of, outcome_of, outcome_in};
-ghost use Rattle.mage_planner.specs.Steps.{StepCounted, IsNoDeskFault};
+ghost use Rattle.mage_planner.specs.Steps.{WorkCounted, IsNoDeskFault};
 ghost use Rattle.mage_planner.specs.Upgrading.{EarlierFilesComeToTodays, UpgradesKeepCarried};
-ghost use Rattle.mage_planner.specs.Answer.{Answers, Works, WritesNoFile, RunsNothing, AnswerCounted, refusal_of, IsComplete, IsWordsOrMemory, HasRoom, TellsStores, StoresAreSound};
+ghost use Rattle.mage_planner.specs.Answer.{Answers, Works, WritesNoFile, RunsNothing, AnswerCounted, refusal_of, IsComplete, IsWordsOrMemory, HasRoom, TellsStores, StoresAreSound, streams_of};
 
 use crate::command::work;
 use crate::perform::perform;
@@ -29,12 +29,13 @@ fn run<D: Desk>(alloc: Global, words: &[String], desk: &mut D) -> Result<(), Ref
         (D.tells desk.new)) }
     ensures some { (found : Found) × Works true (outcome_of found (bytes_of_words words.now))
         result (D.tells desk.old) (D.tells desk.new) }
-    ensures cause { StepCounted (D.tells desk.old).faults (D.tells desk.new).faults result }
+    ensures cause { WorkCounted (D.tells desk.old).faults (D.tells desk.new).faults result }
     ensures steady { IsTrue (D.tells desk.old).steady → IfSome (D.tells desk.old).files (λ files.
         IsNoDeskFault (outcome_in files (bytes_of_words words.now))
         → HasRoom (D.tells desk.old) (outcome_in files (bytes_of_words words.now))
         → TellsStores (D.tells desk.old) (outcome_in files (bytes_of_words words.now))
-        → IsNoDeskFault result) }
+        → streams_of (outcome_in files (bytes_of_words words.now)) ≡ []
+        → IsNoDeskFault result × ((D.tells desk.new).faults ≡ (D.tells desk.old).faults)) }
     ensures sound { IsNoDeskFault result → StoresAreSound (D.tells desk.old) (D.tells desk.new) }
     ensures files { WritesNoFile (asked_of (bytes_of_words words.now))
         → (D.tells desk.new).files ≡ (D.tells desk.old).files }
@@ -133,6 +134,7 @@ pub fn planner<D: Desk>(alloc: Global, words: &[String], desk: &mut D) -> Status
         IsNoDeskFault (outcome_in files (bytes_of_words words.now))
         → HasRoom (D.tells desk.old) (outcome_in files (bytes_of_words words.now))
         → TellsStores (D.tells desk.old) (outcome_in files (bytes_of_words words.now))
+        → streams_of (outcome_in files (bytes_of_words words.now)) ≡ []
         → length (line_of refusals.Memory) ≤ (D.tells desk.old).warn_room
         → ((D.tells desk.new).faults ≡ (D.tells desk.old).faults)
         × StoresAreSound (D.tells desk.old) (D.tells desk.new)

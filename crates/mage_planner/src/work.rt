@@ -41,6 +41,18 @@ pub struct Generating<'a> {
     pub running: Running,
 }
 
+/// A memory program that is garbled, by this seed, on the garbler's inputs, a list for each worker.
+#[derive(Drop)]
+pub struct Garbling<'a> {
+    pub parts: Vec<Part>,
+    pub seed: [u8; 32],
+    pub garbler: Vec<Vec<u128>>,
+    /// What the names of the stream files begin with.
+    pub stream: &'a str,
+    /// How many bytes the stream of each worker has at most.
+    pub rooms: Vec<u64>,
+}
+
 /// What a command does that isn't refused.
 #[derive(Drop)]
 pub enum Work<'a> {
@@ -52,6 +64,8 @@ pub enum Work<'a> {
     Write(Writing<'a>),
     /// To run a memory program over stores of the desk, and to say what it puts out.
     Run(Running),
+    /// To run a memory program over stores of the desk, and to garble into the stream file of each worker.
+    Garble(Garbling<'a>),
     /// To write a source and its inputs, to run its memory program, and to say what that costs and what it puts out.
     Generate(Generating<'a>),
 }

@@ -1,14 +1,8 @@
 use Rattle.std.proofs.Common.{true}
-use Rattle.std.proofs.lemmas.Option.{IfSome_then}
-use Rattle.mage_words.specs.Answers.{gen_view, solo_view}
-use Rattle.mage_words.specs.Words.{Solo}
-use Rattle.mage_planner.specs.Outcome.{found_in, gen_outcome, nothing_found, solo_outcome}
-use Rattle.mage_planner.specs.Work.{GivesSo, IsRunOf}
+use Rattle.mage_words.specs.Answers.{gen_view}
+use Rattle.mage_planner.specs.Outcome.{gen_outcome, nothing_found}
 use Rattle.mage_planner.proofs.GeneratedLemmas.{told_any}
 use Rattle.mage_planner.proofs.command.answer.Goals as goal
-
-pub returns-in-Solo-clause-cause : goal.returns-in-Solo-clause-cause
-returns-in-Solo-clause-cause g c = c.to_run.ensures.counts _ _ c.solo.ensures.cause
 
 pub returns-in-Stats-clause-cause : goal.returns-in-Stats-clause-cause
 returns-in-Stats-clause-cause g c = c.said.ensures.counts _ _ c.stats.ensures.cause
@@ -27,9 +21,7 @@ returns-in-Upgrade-clause-cause g c = c.written-in-Upgrade.ensures.counts _ _ c.
 
 pub returns-in-Solo-clause-told : goal.returns-in-Solo-clause-told
 returns-in-Solo-clause-told g c =
-    rw c.in-Solo.is (IfSome_then (g.D.Desk.tells c.args.desk.now).files
-    {P = λ files. GivesSo (g.D.Desk.tells c.args.desk.now).steady IsRunOf c.solo.result (solo_outcome (found_in files (Solo (solo_view c.in-Solo.request))) (solo_view c.in-Solo.request))}
-    c.solo.ensures.told (λ files h. c.to_run.ensures.gives _ _ h))
+    rw c.in-Solo.is c.driven.ensures.told
 
 pub returns-in-Gen-clause-cause : goal.returns-in-Gen-clause-cause
 returns-in-Gen-clause-cause g c = c.to_generate.ensures.counts _ _ (c.generated.ensures.quiet _)

@@ -1,12 +1,15 @@
 use Rattle.std.proofs.Common.{ap, ◌∙◌}
 use Rattle.std.proofs.lemmas.Result.{err_from_is_err_and}
 use Rattle.mage_planner.specs.Ran.{orders_of}
-use Rattle.mage_planner.proofs.RanLemmas.{few_orders, has_lent, lent_so, nothing_done, unlent, unlent_is_sound}
+use Rattle.mage_planner.proofs.RanLemmas.{few_orders, has_lent, lent_so, moves_count, nothing_done, pages_fit, unlent, unlent_is_sound}
 use Rattle.mage_planner.proofs.running.run.Goals as goal
+
+pub orders_of-requires-clause-pages : goal.orders_of-requires-clause-pages
+orders_of-requires-clause-pages g c = rw c.deref.ensures.value (pages_fit c.args.running.parts.items c.requires.verified)
 
 pub lend-requires-clause-few : goal.lend-requires-clause-few
 lend-requires-clause-few g c κs within =
-    few_orders c.args.running.parts.items c.deref-2.result.now c.requires.verified (c.deref-2.ensures.value ∙ c.in_ok-orders.ensures.orders ∙ ap orders_of c.deref.ensures.value)
+    few_orders 1 c.args.running.parts.items c.deref-2.result.now c.requires.verified (c.deref-2.ensures.value ∙ c.in_ok-orders.ensures.orders ∙ ap (orders_of 1) c.deref.ensures.value)
 
 pub returns-in_err-orders-clause-ran : goal.returns-in_err-orders-clause-ran
 returns-in_err-orders-clause-ran g c = λ done is.
@@ -16,8 +19,8 @@ returns-in_err-orders-clause-ran g c = λ done is.
 pub returns-in_err-stores-clause-ran : goal.returns-in_err-stores-clause-ran
 returns-in_err-stores-clause-ran g c = λ done is.
     let p = err_from_is_err_and c.from_residual-in_err-stores.result c.from_residual-in_err-stores.ensures.1 in
-    rw (p.1, p.2) (unlent (Unit {0}) c.args.running done c.deref-2.result.now c.in_err-stores.field-0.0 _ _ is
-    (c.deref-2.ensures.value ∙ c.in_ok-orders.ensures.orders ∙ ap orders_of c.deref.ensures.value) c.in_err-stores.ensures.leaves)
+    rw (p.1, p.2) (unlent (Unit {0}) 1 c.args.running.parts.items done c.deref-2.result.now c.in_err-stores.field-0.0 _ _ (moves_count c.args.running done is)
+    (c.deref-2.ensures.value ∙ c.in_ok-orders.ensures.orders ∙ ap (orders_of 1) c.deref.ensures.value) c.in_err-stores.ensures.leaves)
 
 pub returns-in_err-stores-clause-sound : goal.returns-in_err-stores-clause-sound
 returns-in_err-stores-clause-sound g c =
@@ -26,20 +29,20 @@ returns-in_err-stores-clause-sound g c =
 
 pub run_over-outcome-requires-clause-lent : goal.run_over-outcome-requires-clause-lent
 run_over-outcome-requires-clause-lent g c κs within =
-    lent_so _ _ c.args.running.parts.items _
-    (has_lent _ _ c.args.running.parts.items c.deref-2.result.now _ (c.deref-2.ensures.value ∙ c.in_ok-orders.ensures.orders ∙ ap orders_of c.deref.ensures.value) c.in_ok-stores.ensures.stores c.in_ok-stores.ensures.leaves)
+    lent_so 1 _ _ c.args.running.parts.items _
+    (has_lent 1 _ _ c.args.running.parts.items c.deref-2.result.now _ (c.deref-2.ensures.value ∙ c.in_ok-orders.ensures.orders ∙ ap (orders_of 1) c.deref.ensures.value) c.in_ok-stores.ensures.stores c.in_ok-stores.ensures.leaves)
 
 pub returns-clause-ran : goal.returns-clause-ran
 returns-clause-ran g c = λ done is.
-    let has = has_lent _ _ c.args.running.parts.items c.deref-2.result.now _ (c.deref-2.ensures.value ∙ c.in_ok-orders.ensures.orders ∙ ap orders_of c.deref.ensures.value) c.in_ok-stores.ensures.stores c.in_ok-stores.ensures.leaves in
+    let has = has_lent 1 _ _ c.args.running.parts.items c.deref-2.result.now _ (c.deref-2.ensures.value ∙ c.in_ok-orders.ensures.orders ∙ ap (orders_of 1) c.deref.ensures.value) c.in_ok-stores.ensures.stores c.in_ok-stores.ensures.leaves in
     c.said.ensures.ran done _ _ (c.run_over-outcome.ensures.ends done _ is has)
 
 pub returns-clause-steady : goal.returns-clause-steady
 returns-clause-steady g c = λ steady tells.
-    let has = has_lent _ _ c.args.running.parts.items c.deref-2.result.now _ (c.deref-2.ensures.value ∙ c.in_ok-orders.ensures.orders ∙ ap orders_of c.deref.ensures.value) c.in_ok-stores.ensures.stores c.in_ok-stores.ensures.leaves in
+    let has = has_lent 1 _ _ c.args.running.parts.items c.deref-2.result.now _ (c.deref-2.ensures.value ∙ c.in_ok-orders.ensures.orders ∙ ap (orders_of 1) c.deref.ensures.value) c.in_ok-stores.ensures.stores c.in_ok-stores.ensures.leaves in
     c.said.ensures.unbroken (c.run_over-outcome.ensures.steady _ has steady tells)
 
 pub returns-clause-sound : goal.returns-clause-sound
 returns-clause-sound g c = λ none.
-    let has = has_lent _ _ c.args.running.parts.items c.deref-2.result.now _ (c.deref-2.ensures.value ∙ c.in_ok-orders.ensures.orders ∙ ap orders_of c.deref.ensures.value) c.in_ok-stores.ensures.stores c.in_ok-stores.ensures.leaves in
+    let has = has_lent 1 _ _ c.args.running.parts.items c.deref-2.result.now _ (c.deref-2.ensures.value ∙ c.in_ok-orders.ensures.orders ∙ ap (orders_of 1) c.deref.ensures.value) c.in_ok-stores.ensures.stores c.in_ok-stores.ensures.leaves in
     c.run_over-outcome.ensures.sound _ has (c.said.ensures.broken none)

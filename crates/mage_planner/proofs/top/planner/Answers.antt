@@ -36,7 +36,7 @@ returns-in-Err-clause-told g c =
 pub returns-in-Err-clause-steady : goal.returns-in-Err-clause-steady
 returns-in-Err-clause-steady g c = λ steady.
     steady_files _ c.in-Err.refusal c.refuse.result c.status.result c.status.ensures c.refuse.ensures.same _ _ _
-    c.refuse.ensures.warns _ (λ files. outcome_in files (bytes_of_words c.args.words.now)) steady c.in-Err.ensures.cause
+    c.refuse.ensures.warns _ (λ files. outcome_in files (bytes_of_words c.args.words.now)) steady
     (ap (λ desk. desk.steady) c.in-Err.ensures.rest) (ap (λ desk. desk.warn_room) c.in-Err.ensures.rest) c.in-Err.ensures.sound
     (c.in-Err.ensures.steady steady) c.in-Err.ensures.told
 

@@ -8,7 +8,7 @@ use Rattle.mage_planner.specs.Outcome.{outcome_in, outcome_of}
 use Rattle.mage_planner.specs.Steps.{Refuses}
 use Rattle.mage_planner.specs.Work.{IsWorkOf}
 use Rattle.mage_planner.specs.Writing.{Performs}
-use Rattle.mage_planner.proofs.PerformLemmas.{changes, counts, leaves_files, leaves_stores, refused, steady_told, unread, works, works_told}
+use Rattle.mage_planner.proofs.PerformLemmas.{changes, counts, leaves_files, leaves_stores, refused, refused_steady, steady_told, work_counted, unread, works, works_told}
 use Rattle.mage_planner.proofs.WordsLemmas.{moves_none_of, no_store_fault, writes_none_of}
 use Rattle.mage_planner.proofs.top.run.Goals as goal
 
@@ -90,3 +90,17 @@ returns-in_err-work-clause-some g c =
       rw (p.1, p.2) (refused _ (outcome_of found.0 (bytes_of_words c.args.words.now)) why (g.D.Desk.tells c.args.desk.now) (g.D.Desk.tells c.work.new.desk)
           (no_store_fault found.0 (bytes_of_words c.args.words.now) why) found.1 c.in_err-work.ensures.cause c.in_err-work.ensures.rest),
     )
+
+pub returns-in_err-work-clause-steady : goal.returns-in_err-work-clause-steady
+returns-in_err-work-clause-steady g c = λ steady.
+    let p = err_from_is_err_and c.from_residual.result c.from_residual.ensures.1 in
+    let why = c.in_err-work.field-0.0 in
+    rw (p.1, p.2) (IfSome_then (g.D.Desk.tells c.args.desk.now).files
+    {P = λ files. Refuses (g.D.Desk.tells c.args.desk.now).steady why (outcome_in files (bytes_of_words c.args.words.now))}
+    c.in_err-work.ensures.told
+    (λ files h found has tells none. refused_steady _ why (outcome_in files (bytes_of_words c.args.words.now)) _ _ steady h c.in_err-work.ensures.cause found))
+
+pub returns-in_err-work-clause-cause : goal.returns-in_err-work-clause-cause
+returns-in_err-work-clause-cause g c =
+    let p = err_from_is_err_and c.from_residual.result c.from_residual.ensures.1 in
+    rw (p.1, p.2) (work_counted c.in_err-work.field-0.0 _ _ c.in_err-work.ensures.cause)
