@@ -187,8 +187,9 @@ impl Desk for MemDesk {
     }
 
     fn close_in(&mut self, _name: &str, source: MemSource)
-        ensures { self.new
+        ensures counted { self.new
             ≡ record self.old { faults = count_after self.old.faults source.faults } }
+        ensures quiet { source.faults ≡ 0 → self.new.faults ≡ self.old.faults }
     {
         self.count_faults(source.faults());
     }

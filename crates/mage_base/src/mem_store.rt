@@ -1,12 +1,11 @@
 // A store in memory.
-ghost use Rattle.std.specs.Prelude.{◌≡◌, ◌<◌, ◌↔◌, length, map, replicate, set, vec_len, IfOk, IsOk, IsErr, IsTrue, OnErr};
-ghost use Rattle.std.specs.List.{All};
+ghost use Rattle.std.specs.Prelude.{◌≡◌, ◌<◌, ◌↔◌, length, IfOk, IsOk, IsErr, IsTrue, OnErr};
 ghost use Rattle.mage_base.specs.Faults.{Counted, top};
 ghost use Rattle.mage_base.specs.MemStore.{new_state, store_told, cannot_move, after_read_of, after_write_of};
-ghost use Rattle.mage_base.specs.Store.{Reads, Writes, zero_page};
+ghost use Rattle.mage_base.specs.Store.{Reads, Writes};
 
 use crate::calls::Calls;
-use crate::{Failed, Memory, Store, StoreCounts};
+use crate::{Failed, Memory, Store, StoreCounts, overwrite, zero_pages};
 use std::alloc::Global;
 use std::marker::Model;
 
@@ -79,33 +78,6 @@ impl MemStore {
             faults: self.faults,
         }
     }
-}
-
-// So many pages of zeros.
-fn zero_pages(alloc: Global, count: u32, page_bytes: usize) -> Result<Vec<Vec<u8>>, Memory>
-    ensures pages { IfOk result (λ pages.
-        map (λ page. page.items) pages.items ≡ replicate count (zero_page page_bytes)) }
-    ensures lengths { IfOk result (λ pages.
-        All (λ page. length page.items ≡ page_bytes) pages.items) }
-{
-    let mut pages = Vec::with_capacity(alloc, count as usize)?;
-    for _ in 0..count {
-        let mut page = Vec::new(alloc);
-        page.resize(page_bytes, 0)?;
-        pages.push(page)?;
-    }
-    Ok(pages)
-}
-
-// Writes a page over one of its length.
-fn overwrite(pages: &mut Vec<Vec<u8>>, page: usize, from: &[u8])
-    requires lengths { All (λ held. length held.items ≡ length from.now) pages.old.items }
-    requires within { page < vec_len pages.old }
-    ensures pages { map (λ held. held.items) pages.new.items
-        ≡ set (map (λ held. held.items) pages.old.items) page from.now }
-    ensures lengths { All (λ held. length held.items ≡ length from.now) pages.new.items }
-{
-    pages[page].copy_from_slice(from);
 }
 
 impl Store for MemStore {

@@ -1,5 +1,5 @@
 // Where bytes go.
-ghost use Rattle.std.specs.Prelude.{◌≡◌, ◌≤◌, ◌+◌, length, IsTrue, IsOk, OnOk};
+ghost use Rattle.std.specs.Prelude.{◌≡◌, ◌≤◌, ◌+◌, length, IsTrue, IsOk, OnOk, IsNone};
 ghost use Rattle.mage_base.specs.Faults.{Counted};
 ghost use Rattle.mage_base.specs.Sink.{SinkTold, Puts};
 
@@ -9,9 +9,10 @@ use crate::Failed;
 pub trait Sink {
     ghost tells: { Self → SinkTold };
 
-    /// Takes all of the bytes. After `Failed` it has taken a front of them.
+    /// Takes all of the bytes. After `Failed` it has taken a front of them. What isn't told stays untold.
     fn put(&mut self, bytes: &[u8]) -> Result<(), Failed>
         ensures puts { Puts result (tells self.old).taken bytes.now (tells self.new).taken }
+        ensures untold { IsNone (tells self.old).taken → IsNone (tells self.new).taken }
         ensures cause { Counted (tells self.old).faults (tells self.new).faults result }
         ensures steady { IsTrue (tells self.old).steady
             → length bytes.now ≤ (tells self.old).room → IsOk result }

@@ -6,7 +6,7 @@ ghost use Rattle.mage_base.specs.Store.{Reads, Writes, zero_page};
 ghost use Rattle.mage_log_store.specs.LogStore.{new_state, log_told, flipped, lied, cannot_move, answer_of, after_read_of, after_write_of};
 
 use crate::Lie;
-use mage_base::{Failed, Items, Memory, Store, StoreCounts};
+use mage_base::{overwrite, zero_pages, Failed, Items, Memory, Store, StoreCounts};
 use mage_port::History;
 use std::alloc::Global;
 use std::marker::Model;
@@ -94,33 +94,6 @@ impl LogStore {
     {
         &self.log
     }
-}
-
-// So many pages of zeros.
-fn zero_pages(alloc: Global, count: u32, page_bytes: usize) -> Result<Vec<Vec<u8>>, Memory>
-    ensures pages { IfOk result (λ pages.
-        map (λ page. page.items) pages.items ≡ replicate count (zero_page page_bytes)) }
-    ensures lengths { IfOk result (λ pages.
-        All (λ page. length page.items ≡ page_bytes) pages.items) }
-{
-    let mut pages = Vec::with_capacity(alloc, count as usize)?;
-    for _ in 0..count {
-        let mut page = Vec::new(alloc);
-        page.resize(page_bytes, 0)?;
-        pages.push(page)?;
-    }
-    Ok(pages)
-}
-
-// Writes a page over one of its length.
-fn overwrite(pages: &mut Vec<Vec<u8>>, page: usize, from: &[u8])
-    requires lengths { All (λ held. length held.items ≡ length from.now) pages.old.items }
-    requires within { page < vec_len pages.old }
-    ensures pages { map (λ held. held.items) pages.new.items
-        ≡ set (map (λ held. held.items) pages.old.items) page from.now }
-    ensures lengths { All (λ held. length held.items ≡ length from.now) pages.new.items }
-{
-    pages[page].copy_from_slice(from);
 }
 
 // Xors a byte with a mask, where there is one.

@@ -1,6 +1,6 @@
 use Rattle.std.proofs.Common.{ap, map, set, ◌∙◌}
 use Rattle.std.proofs.lemmas.List.{map-set}
-use Rattle.mage_log_store.proofs.log_store.overwrite.Goals as goal
+use Rattle.mage_base.proofs.memory_pages.overwrite.Goals as goal
 
 pub returns-clause-pages : goal.returns-clause-pages
 returns-clause-pages c =

@@ -1,7 +1,7 @@
 use Rattle.std.proofs.Common.{◌≡◌, length, map, replicate}
 use Rattle.std.specs.List.{All}
 use Rattle.mage_base.specs.Store.{zero_page}
-use Rattle.mage_base.proofs.mem_store.zero_pages.Given as goal
+use Rattle.mage_base.proofs.memory_pages.zero_pages.Given as goal
 
 abbrev pub invariant-loop : goal.invariant-loop
 invariant-loop l = record {
