@@ -17,6 +17,7 @@ use Rattle.mage_engine.specs.declared.turn.Kind.{Kind}
 use Rattle.mage_engine.specs.Seen.{Seen, directive_at}
 use Rattle.mage_engine.specs.Ready.{Connects, wires_of, wires_of_op, target_of, source_of}
 use Rattle.mage_engine.specs.Steps.{IsMove, AtPort, AtLink, OverLink, place_after, wire_after, first_worker}
+use Rattle.mage_engine.proofs.Advancing.{some_wires}
 use Rattle.mage_engine.proofs.Along.{still_along}
 use Rattle.mage_core.specs.Turns.{SameWires}
 use Rattle.mage_core.specs.Paging.{first_paged}
@@ -86,20 +87,6 @@ module _ (xs : List Directive) (place wire : ℕ) where
       go false e = let none = (halfway x wire less e).1 in omega (arith, none)
 
 -- ---- wires
-
-op_wires : (o : Op) (width : ℕ) → 1 ≤ width → 0 < wires_of_op o width
-op_wires op.Send width some = omega (arith, some)
-op_wires op.Recv width some = omega (arith, some)
-op_wires _ width some = omega arith
-
-pub some_wires : (worker : ℕ) (o : Option Directive) → IfSome o (IsDirective 16 worker) → 0 < wires_of o
-some_wires worker None is = omega arith
-some_wires worker (Some (entry.Fresh frame page)) is = omega arith
-some_wires worker (Some (entry.IssueIn slot page)) is = omega arith
-some_wires worker (Some (entry.FinishIn slot frame)) is = omega arith
-some_wires worker (Some (entry.IssueOut slot frame page)) is = omega arith
-some_wires worker (Some (entry.FinishOut slot)) is = omega arith
-some_wires worker (Some (entry.Do job)) is = op_wires job.op job.width is.width.0
 
 wire_then : (worker : ℕ) (xs : List Directive) (place wire : ℕ) → ((d : ℕ) → IfSome (slice_get xs d) (IsDirective 16 worker)) →
     (o : Option Directive) → o ≡ slice_get xs place → wire < wires_of o → wire_after o wire < wires_of (slice_get xs (place_after o wire place))

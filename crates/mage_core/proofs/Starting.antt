@@ -26,7 +26,7 @@ use Rattle.mage_core.specs.Made.{IsNew}
 use Rattle.mage_core.specs.Turns.{sights}
 use Rattle.mage_core.specs.Going.{IsGoing, HasGone, AllGo, start_of, is_sound, reads_of, writes_of}
 use Rattle.mage_core.specs.Paging.{GoesOverPages, first_paged}
-use Rattle.mage_core.proofs.Going.{some_wires}
+use Rattle.mage_engine.proofs.Advancing.{some_wires}
 use Rattle.mage_core.proofs.Paging.{first_keeps, over_first}
 
 pub if_some : {X : Type 0} (P Q : X → Type 0) (o : Option X) → ((x : X) → o ≡ Some x → P x → Q x) → IfSome o P → IfSome o Q

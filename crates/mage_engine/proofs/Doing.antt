@@ -103,7 +103,7 @@ module _ {W : Type 0} (rules : Rules W) (wb : ℕ) (old : Seen rules.State) (sou
 
 -- ---- an instruction that the driver makes
 
-computes_when : {W : Type 0} (rules : Rules W) (o : Op) → is_made o ≡ true → (job : Job) (engine : Engine rules.State) →
+pub computes_when : {W : Type 0} (rules : Rules W) (o : Op) → is_made o ≡ true → (job : Job) (engine : Engine rules.State) →
     computes rules job engine ≡ act_of_op rules o job engine
 computes_when rules op.Send made job engine = absurd cc
 computes_when rules op.Recv made job engine = absurd cc

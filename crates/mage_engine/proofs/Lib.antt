@@ -1,14 +1,14 @@
 mod Pages
 mod Slots
 mod Views
-mod Advancing
+pub mod Advancing
 mod Moving
 mod Issuing
 mod Finishing
 mod Opening
 mod Using
 pub mod Calling
-mod Doing
+pub mod Doing
 mod Passing
 pub mod Staying
 pub mod Along

@@ -5,7 +5,7 @@ use Rattle.std.specs.Vec.{with_item}
 use Rattle.std.specs.declared.alloc.Global.{Global}
 use Rattle.circular_buffer.specs.Buffer.{Buffer, buffer}
 use Rattle.mage_link.specs.declared.wire.Wire16.{Wire16}
-use Rattle.mage_link.specs.declared.wire_history.WireHistory.{WireHistory}
+use Rattle.mage_history.specs.declared.wire_history.WireHistory.{WireHistory}
 use Rattle.mage_link.specs.declared.link.Link.{Link}
 use Rattle.mage_link.specs.Queues.{with_place}
 use Rattle.mage_link.specs.Rows.{rows_of, new_link, link_in, HasLink, link_popped, Pops}

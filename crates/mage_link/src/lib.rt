@@ -8,7 +8,6 @@ mod queue_link;
 #[cfg(test)]
 mod tests;
 mod wire;
-mod wire_history;
 
 pub use laws::wires_are_kept;
 pub use link_port::LinkPort;

@@ -1,6 +1,6 @@
 // One link on one thread.
 use crate::Wire16;
-use crate::wire_history::WireHistory;
+use mage_history::WireHistory;
 use circular_buffer::HeapCircularBuffer;
 
 /// The wires that lie in a link, in a queue of fixed room, and those that were received from it.

@@ -16,7 +16,7 @@ use Rattle.mage_base.specs.Store.{Transfer}
 use Rattle.mage_base.specs.Ledger.{LedgerState, returned_in, with_counts}
 use Rattle.mage_base.specs.MemDesk.{DeskState, files_of, after_desk_call}
 use Rattle.mage_base.specs.MemSink.{SinkState, sink_told}
-use Rattle.mage_port.specs.declared.history.History.{History}
+use Rattle.mage_history.specs.declared.page_history.PageHistory.{PageHistory}
 use Rattle.mage_log_store.specs.LogStore.{LogState, log_told}
 use Rattle.mage_log_store.specs.LogDesk.{LogDeskState, log_at, logs_of, returned_with, log_desk_told, Covers}
 
@@ -64,7 +64,7 @@ covers_given logs after lent left id log covers grown given =
     let same : length after ≡ length logs = ap length grown ∙ length-set logs id.worker log in
     subst (λ (n : ℕ). All (λ (store : StoreId). store.worker < n) left) (sym same) (subst (Covers logs) (sym given) (without_covered logs lent id covers))
 
-log_here : (histories : List History) (worker : ℕ) (d : History) → worker < length histories → get_or (logs_of histories) worker [] ≡ (get_or histories worker d).transfers
+log_here : (histories : List PageHistory) (worker : ℕ) (d : PageHistory) → worker < length histories → get_or (logs_of histories) worker [] ≡ (get_or histories worker d).transfers
 log_here [] worker d within = absurd (omega arith)
 log_here (first ∷ histories) zero d within = refl
 log_here (first ∷ histories) (suc worker) d within =
@@ -72,19 +72,19 @@ log_here (first ∷ histories) (suc worker) d within =
     log_here histories worker d rest
 
 -- a worker's log with another one behind it
-pub log_given : (histories : List History) (worker : ℕ) (was given : History) (later : List Transfer) → worker < length histories → was ≡ get_or histories worker was → given.transfers ≡ was.transfers ++ later → logs_of (set histories worker given) ≡ set (logs_of histories) worker (get_or (logs_of histories) worker [] ++ later)
+pub log_given : (histories : List PageHistory) (worker : ℕ) (was given : PageHistory) (later : List Transfer) → worker < length histories → was ≡ get_or histories worker was → given.transfers ≡ was.transfers ++ later → logs_of (set histories worker given) ≡ set (logs_of histories) worker (get_or (logs_of histories) worker [] ++ later)
 log_given histories worker was given later within is grown =
-    map-set (λ (history : History). history.transfers) histories worker given
-    ∙ ap (set (logs_of histories) worker) (grown ∙ ap (λ (l : List Transfer). l ++ later) (ap (λ (h : History). h.transfers) is ∙ sym (log_here histories worker was within)))
+    map-set (λ (history : PageHistory). history.transfers) histories worker given
+    ∙ ap (set (logs_of histories) worker) (grown ∙ ap (λ (l : List Transfer). l ++ later) (ap (λ (h : PageHistory). h.transfers) is ∙ sym (log_here histories worker was within)))
 
-at_grown : (histories : List History) (last : History) (worker : ℕ) → last.transfers ≡ [] → get_or (logs_of (histories ++ last ∷ [])) worker [] ≡ get_or (logs_of histories) worker []
+at_grown : (histories : List PageHistory) (last : PageHistory) (worker : ℕ) → last.transfers ≡ [] → get_or (logs_of (histories ++ last ∷ [])) worker [] ≡ get_or (logs_of histories) worker []
 at_grown [] last zero empty = empty
 at_grown [] last (suc worker) empty = refl
 at_grown (first ∷ histories) last zero empty = refl
 at_grown (first ∷ histories) last (suc worker) empty = at_grown histories last worker empty
 
 -- one more worker, of whose stores none was given back
-pub logs_grown : (histories : List History) (last : History) → last.transfers ≡ [] → log_at (logs_of (histories ++ last ∷ [])) ≡ log_at (logs_of histories)
+pub logs_grown : (histories : List PageHistory) (last : PageHistory) → last.transfers ≡ [] → log_at (logs_of (histories ++ last ∷ [])) ≡ log_at (logs_of histories)
 logs_grown histories last empty = fun_ext (λ worker. at_grown histories last worker empty)
 
 returned_at : (before after : LedgerState) (logs : List (List Transfer)) (worker : ℕ) (store : LogState) (other : ℕ) → worker < length logs → returned_in after.totals ≡ (λ w. if w == worker then with_counts (returned_in before.totals w) (record { reads = store.reads; writes = store.writes; faults = store.faults }) else returned_in before.totals w) → returned_with after (set logs worker (get_or logs worker [] ++ store.log)) other ≡ (if other == worker then with_store (returned_with before logs other) (log_told store) else returned_with before logs other)
@@ -148,14 +148,14 @@ pub covers_after : {T E : Type 0} (result : Result T E) (logs after : List (List
 covers_after (Ok done) logs after lent left id ok err longer has covers = subst (Covers after) (sym ok) (covers_lent logs after lent id covers longer has)
 covers_after (Err error) logs after lent left id ok err longer has covers = subst (Covers after) (sym err) (covers_longer logs after lent covers longer)
 
-pub covers_histories : (histories after : List History) (lent : List StoreId) → length histories ≤ length after → Covers (logs_of histories) lent → Covers (logs_of after) lent
+pub covers_histories : (histories after : List PageHistory) (lent : List StoreId) → length histories ≤ length after → Covers (logs_of histories) lent → Covers (logs_of after) lent
 covers_histories histories after lent longer covers =
-    covers_longer (logs_of histories) (logs_of after) lent covers (subst (λ (n : ℕ). n ≤ length (logs_of after)) (sym (length-map histories (λ (h : History). h.transfers))) (subst (λ (n : ℕ). length histories ≤ n) (sym (length-map after (λ (h : History). h.transfers))) longer))
+    covers_longer (logs_of histories) (logs_of after) lent covers (subst (λ (n : ℕ). n ≤ length (logs_of after)) (sym (length-map histories (λ (h : PageHistory). h.transfers))) (subst (λ (n : ℕ). length histories ≤ n) (sym (length-map after (λ (h : PageHistory). h.transfers))) longer))
 
-pub covers_lending : {T E : Type 0} (result : Result T E) (histories after : List History) (lent left : List StoreId) (id : StoreId) → OnOk result (left ≡ lent ++ id ∷ []) → OnErr result (left ≡ lent) → length histories ≤ length after → id.worker < length after → Covers (logs_of histories) lent → Covers (logs_of after) left
+pub covers_lending : {T E : Type 0} (result : Result T E) (histories after : List PageHistory) (lent left : List StoreId) (id : StoreId) → OnOk result (left ≡ lent ++ id ∷ []) → OnErr result (left ≡ lent) → length histories ≤ length after → id.worker < length after → Covers (logs_of histories) lent → Covers (logs_of after) left
 covers_lending result histories after lent left id ok err longer has covers =
-    let before = length-map histories (λ (h : History). h.transfers) in
-    let now = length-map after (λ (h : History). h.transfers) in
+    let before = length-map histories (λ (h : PageHistory). h.transfers) in
+    let now = length-map after (λ (h : PageHistory). h.transfers) in
     let longer' : length (logs_of histories) ≤ length (logs_of after) = omega (arith, before, now) in
     let has' : id.worker < length (logs_of after) = omega (arith, now) in
     covers_after result (logs_of histories) (logs_of after) lent left id ok err longer' has' covers

@@ -5,7 +5,7 @@ use Rattle.mage_base.specs.Store.{Transfer}
 use Rattle.mage_base.specs.Desk.{DeskTold, StoreId, Returned}
 use Rattle.mage_base.specs.Ledger.{LedgerState, empty_ledger, returned_in}
 use Rattle.mage_base.specs.MemDesk.{DeskState, desk_told}
-use Rattle.mage_port.specs.declared.history.History.{History}
+use Rattle.mage_history.specs.declared.page_history.PageHistory.{PageHistory}
 use Rattle.mage_log_store.specs.declared.lie.Lie.{Lie}
 
 -- the desk in memory, how many calls of each store may succeed, the lies, the stores that were handed out and given back,
@@ -22,7 +22,7 @@ abbrev pub new_log_desk : DeskState → (calls : ℕ) → List Lie → LogDeskSt
 new_log_desk inner calls lies =
     record { inner = inner; calls = calls; lies = lies; ledger = empty_ledger; logs = [] }
 
-abbrev pub logs_of : List History → List (List Transfer)
+abbrev pub logs_of : List PageHistory → List (List Transfer)
 logs_of histories = map (λ history. history.transfers) histories
 
 -- the log of a worker's stores

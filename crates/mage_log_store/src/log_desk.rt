@@ -8,7 +8,7 @@ ghost use Rattle.mage_log_store.specs.LogDesk.{new_log_desk, log_desk_told, log_
 
 use crate::{Lie, LogStore};
 use mage_base::{Desk, DeskError, Failed, Items, Ledger, MemDesk, MemSink, MemSource, Memory};
-use mage_port::History;
+use mage_history::PageHistory;
 use std::alloc::Global;
 use std::marker::Model;
 
@@ -20,7 +20,7 @@ pub struct LogDesk {
     calls: u64,
     lies: Items<Lie>,
     ledger: Ledger,
-    logs: Vec<History>,
+    logs: Vec<PageHistory>,
 }
 
 impl Model for LogDesk {
@@ -83,25 +83,25 @@ impl LogDesk {
 }
 
 // A log with another one behind it.
-fn append(log: &mut History, later: &History)
+fn append(log: &mut PageHistory, later: &PageHistory)
     ensures { log.new.transfers ≡ log.old.transfers ++ later.now.transfers }
 {}
 
 // Makes the list long enough for this worker.
-fn reach(logs: &mut Vec<History>, worker: u16) -> Result<(), Memory>
+fn reach(logs: &mut Vec<PageHistory>, worker: u16) -> Result<(), Memory>
     ensures reached { OnOk result (worker < length logs.new.items) }
     ensures longer { length logs.old.items ≤ length logs.new.items }
     ensures same { log_at (logs_of logs.new.items) ≡ log_at (logs_of logs.old.items) }
 {
     let wanted = worker as usize + 1;
     for _ in logs.len()..wanted {
-        logs.push(History::new())?;
+        logs.push(PageHistory::new())?;
     }
     Ok(())
 }
 
 // Notes that a store is handed out, and takes room for the log of its worker.
-fn lend(ledger: &mut Ledger, logs: &mut Vec<History>, worker: u16, shard: u16) -> Result<(), Memory>
+fn lend(ledger: &mut Ledger, logs: &mut Vec<PageHistory>, worker: u16, shard: u16) -> Result<(), Memory>
     ensures ok { OnOk result (ledger.new.lent
         ≡ ledger.old.lent ++ record { worker = worker; shard = shard } ∷ []) }
     ensures err { OnErr result (ledger.new.lent ≡ ledger.old.lent) }
@@ -135,7 +135,7 @@ fn begin(
 }
 
 // Adds a store's log to that of its worker.
-fn give(logs: &mut Vec<History>, worker: usize, later: &History)
+fn give(logs: &mut Vec<PageHistory>, worker: usize, later: &PageHistory)
     requires { worker < length logs.old.items }
     ensures logs { logs_of logs.new.items ≡ set (logs_of logs.old.items) worker
         (get_or (logs_of logs.old.items) worker [] ++ later.now.transfers) }

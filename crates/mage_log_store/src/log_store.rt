@@ -7,7 +7,7 @@ ghost use Rattle.mage_log_store.specs.LogStore.{new_state, log_told, flipped, li
 
 use crate::Lie;
 use mage_base::{overwrite, zero_pages, Failed, Items, Memory, Store, StoreCounts};
-use mage_port::History;
+use mage_history::PageHistory;
 use std::alloc::Global;
 use std::marker::Model;
 
@@ -25,7 +25,7 @@ pub struct LogStore {
     faults: u64,
     left: u64,
     lies: Items<Lie>,
-    log: History,
+    log: PageHistory,
 }
 
 impl Model for LogStore {
@@ -70,7 +70,7 @@ impl LogStore {
             faults: 0,
             left: calls,
             lies: Items::from_slice(alloc, lies)?,
-            log: History::new(),
+            log: PageHistory::new(),
         })
     }
 
@@ -89,7 +89,7 @@ impl LogStore {
         }
     }
 
-    pub(crate) fn log(&self) -> &History
+    pub(crate) fn log(&self) -> &PageHistory
         ensures { result.now.transfers ≡ self.now.log }
     {
         &self.log

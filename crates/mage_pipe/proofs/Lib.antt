@@ -5,6 +5,6 @@ mod Judging
 pub mod LeastReads
 mod Walking
 mod Joining
-mod PlanningLemmas
+pub mod PlanningLemmas
 mod Accepted
 pub mod Alike

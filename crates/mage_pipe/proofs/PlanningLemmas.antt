@@ -27,16 +27,16 @@ use Rattle.mage_pipe.specs.Loading.{loaded_of}
 use Rattle.mage_pipe.specs.MemoryProgram.{directives_for, fitting_directives_of, worker_directives_of, parts_from, memory_program_of, IsPassed, IsPlanOfText}
 use Rattle.mage_pipe.specs.Summary.{trace_for, list_for, unless_tight, if_it_fits, tight_at, or_language}
 
-none_tight : {T : Type 0} (o p : Option Tight) (x y : T) → unless_tight (option_or o p) x ≡ Ok y → (o ≡ None) × (p ≡ None) × (x ≡ y)
+pub none_tight : {T : Type 0} (o p : Option Tight) (x y : T) → unless_tight (option_or o p) x ≡ Ok y → (o ≡ None) × (p ≡ None) × (x ≡ y)
 none_tight (Some t) p x y h = absurd (cc)
 none_tight None (Some t) x y h = absurd (cc)
 none_tight None None x y h = (refl, refl, cc)
 
-it_fits : {T : Type 0} (o : Option Tight) (fitting : Result T Tight) (x : T) → if_it_fits o fitting ≡ Ok x → (o ≡ None) × (fitting ≡ Ok x)
+pub it_fits : {T : Type 0} (o : Option Tight) (fitting : Result T Tight) (x : T) → if_it_fits o fitting ≡ Ok x → (o ≡ None) × (fitting ≡ Ok x)
 it_fits None fitting x h = (refl, h)
 it_fits (Some t) fitting x h = absurd (cc)
 
-is_given : {T : Type 0} (worker : ℕ) (r : Result T Tight) (x : T) → tight_at worker r ≡ Ok x → r ≡ Ok x
+pub is_given : {T : Type 0} (worker : ℕ) (r : Result T Tight) (x : T) → tight_at worker r ≡ Ok x → r ≡ Ok x
 is_given {T = T} worker (Ok y) x h = let same : y ≡ x = cc in ap (λ (z : T). Ok z) same
 is_given worker (Err t) x h = absurd (cc)
 

@@ -1,10 +1,8 @@
 //! Ports, which machines ask for pages: a transfer is asked for, and finished later.
 #![tactic(auto)]
 
-mod history;
 mod ready;
 mod swap_port;
 
-pub use history::History;
 pub use ready::{PortWait, Ready};
 pub use swap_port::SwapPort;

@@ -7,7 +7,8 @@ ghost use Rattle.mage_store.specs.Slots.{state_at, bytes_to_write};
 use crate::slot::Task;
 use crate::slots::Slots;
 use mage_base::{Memory, Store};
-use mage_port::{History, PortWait, Ready, SwapPort};
+use mage_history::PageHistory;
+use mage_port::{PortWait, Ready, SwapPort};
 use std::alloc::Global;
 use std::marker::Model;
 use std::snapshot::Snapshot;
@@ -19,7 +20,7 @@ pub struct SerialPort<S: Store> {
     store: S,
     first: Snapshot<S>,
     slots: Slots,
-    history: History,
+    history: PageHistory,
 }
 
 impl<S: Store> Model for SerialPort<S> {
@@ -56,7 +57,7 @@ impl<S: Store> SerialPort<S> {
                 first: Snapshot::of(&store),
                 store,
                 slots,
-                history: History::new(),
+                history: PageHistory::new(),
             }),
             Err(memory) => Err((store, memory)),
         }

@@ -17,36 +17,11 @@ use Rattle.mage_network.specs.Waiting.{may_go_on}
 use Rattle.mage_network.specs.Slots as net
 use Rattle.mage_steps.specs.Frames.{cleared, spot_of_wire, wire_at, with_wires, sent_form, received_form}
 use Rattle.mage_steps.specs.Engines.{Engine, Acting, advanced, past_wire, no_spot, with_result, made_of, computes, act_of_op, finishes}
+use Rattle.mage_engine.proofs.Doing.{computes_when}
 use Rattle.mage_verify.specs.Parts.{WorkerPart}
 use Rattle.mage_world.specs.Seats.{Seat}
 use Rattle.mage_world.specs.Turns.{Wires, Leaves, framed_as, said_by, act_of, Did, Fails, Stays}
 use Rattle.mage_world.proofs.Acting.{act_here, framed_same}
-
-computes_when : {W : Type 0} (rules : Rules W) (o : Op) → is_made o ≡ true → (job : Job) (engine : Engine rules.State) →
-    act_of_op rules o job engine ≡ computes rules job engine
-computes_when rules op.Send made job engine = absurd cc
-computes_when rules op.Recv made job engine = absurd cc
-computes_when rules op.Input made job engine = refl
-computes_when rules op.Const made job engine = refl
-computes_when rules op.Output made job engine = refl
-computes_when rules op.Add made job engine = refl
-computes_when rules op.Sub made job engine = refl
-computes_when rules op.Mul made job engine = refl
-computes_when rules op.And made job engine = refl
-computes_when rules op.Or made job engine = refl
-computes_when rules op.Xor made job engine = refl
-computes_when rules op.Not made job engine = refl
-computes_when rules op.Eq made job engine = refl
-computes_when rules op.Lt made job engine = refl
-computes_when rules op.Mux made job engine = refl
-computes_when rules op.Shl made job engine = refl
-computes_when rules op.Shr made job engine = refl
-computes_when rules op.Resize made job engine = refl
-computes_when rules op.Div made job engine = refl
-computes_when rules op.Rem made job engine = refl
-computes_when rules op.Count made job engine = refl
-computes_when rules op.Min made job engine = refl
-computes_when rules op.Max made job engine = refl
 
 past_so : {S : Type 0} (b : Bool) (engine : Engine S) →
     record engine { place = cond b (engine.place + 1) engine.place; wire = cond b 0 (engine.wire + 1) } ≡
@@ -103,7 +78,7 @@ module _ {W : Type 0} (rules : Rules W) (part : WorkerPart) (capacity : ℕ) (wa
       bank = with_result rules job was.core.engine.bank circuit.wires;
     })))
     made_moves = act_here rules part capacity was (Some (entry.Do job)) here
-        ∙ ap (λ (a : Acting rules). net.act_in net.asked (net.Acts a) was.core) (computes_when rules job.op made job was.core.engine)
+        ∙ ap (λ (a : Acting rules). net.act_in net.asked (net.Acts a) was.core) (sym (computes_when rules job.op made job was.core.engine))
 
     -- whatever the driver made
     pub made_rest : (driver : rules.State) (bank : ℕ → List ℕ) →

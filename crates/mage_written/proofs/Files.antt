@@ -44,6 +44,7 @@ use Rattle.mage_pipe.specs.declared.loaded.Loaded.{Loaded}
 use Rattle.mage_pipe.specs.Loading.{loaded_of}
 use Rattle.mage_pipe.specs.MemoryProgram.{directives_for, fitting_directives_of, worker_directives_of, parts_from, memory_program_of, plan_of}
 use Rattle.mage_pipe.specs.Summary.{trace_for, list_for, unless_tight, if_it_fits, tight_at, or_language}
+use Rattle.mage_pipe.proofs.PlanningLemmas.{none_tight, it_fits, is_given, is_loaded}
 use Rattle.mage_rehome.specs.Earlier.{scheduled, above, above_all, earlier_of}
 use Rattle.mage_rehome.proofs.Passed.{earlier_plans_are_accepted, earlier_plans_come_to_todays}
 use Rattle.mage_written.specs.Written.{IsFiledPlan, LoadedHaveArguments, PlansArePlans, EarlierFilesComeToPlans}
@@ -52,23 +53,6 @@ use Rattle.mage_written.proofs.Passes.{passed_have_arguments, earlier_have_argum
 use Rattle.mage_written.proofs.Values.{accepted_are_values}
 
 -- ---- where the definitions give a memory program, no limit is too low
-
-none_tight : {T : Type 0} (o p : Option Tight) (x y : T) → unless_tight (option_or o p) x ≡ Ok y → (o ≡ None) × (p ≡ None) × (x ≡ y)
-none_tight (Some t) p x y h = absurd (cc)
-none_tight None (Some t) x y h = absurd (cc)
-none_tight None None x y h = (refl, refl, cc)
-
-it_fits : {T : Type 0} (o : Option Tight) (fitting : Result T Tight) (x : T) → if_it_fits o fitting ≡ Ok x → (o ≡ None) × (fitting ≡ Ok x)
-it_fits None fitting x h = (refl, h)
-it_fits (Some t) fitting x h = absurd (cc)
-
-is_given : {T : Type 0} (worker : ℕ) (r : Result T Tight) (x : T) → tight_at worker r ≡ Ok x → r ≡ Ok x
-is_given {T = T} worker (Ok y) x h = let same : y ≡ x = cc in ap (λ (z : T). Ok z) same
-is_given worker (Err t) x h = absurd (cc)
-
-is_loaded : {T : Type 0} (r : Result T LangFault) (x : T) → or_language r ≡ Ok x → r ≡ Ok x
-is_loaded {T = T} (Ok y) x h = let same : y ≡ x = cc in ap (λ (z : T). Ok z) same
-is_loaded (Err fault) x h = absurd (cc)
 
 can_be : (limits : Limits) (instrs : List Instr) (part : Homed) → IsSound instrs → HaveArguments instrs → worker_directives_of limits instrs ≡ Ok part → CanBePlanned limits instrs × (passed limits instrs ≡ part)
 unfolding worker_directives_of fitting_directives_of

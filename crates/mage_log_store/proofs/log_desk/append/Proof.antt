@@ -25,8 +25,8 @@ use denote.Triple.Entry.{on_entry}
 use denote.Triple.Spec.{Meets, triple_of}
 use denote.Triple.Table.{entered}
 use denote.Triple.Walked.{says, Stays, stay_ref, walk_of, AllGo, Goes-ref, Walks, ends_at, walked, walk_Meets}
-use Rattle.mage_port.specs.declared.history.History.{History}
-use Rattle.mage_port.specs.contracts.history.History as T
+use Rattle.mage_history.specs.declared.page_history.PageHistory.{PageHistory}
+use Rattle.mage_history.specs.contracts.page_history.PageHistory as T
 use Rattle.mage_log_store.specs.contracts.log_desk.append.Key.{name as #it}
 use Rattle.mage_log_store.specs.contracts.log_desk.append as it
 use Rattle.mage_log_store.proofs.log_desk.append.Statement as stated
@@ -36,18 +36,18 @@ use denote.Exit.{yes}
 use denote.Triple.Walked.{stay_none_ref, Goes-none_ref}
 
 abbrev Arg : Type 0
-Arg = MutBor History × (Bor History × Unit {0})
+Arg = MutBor PageHistory × (Bor PageHistory × Unit {0})
 
 abbrev stayed : Stays (it.ended).signature.params (it.ended).kept
 stayed = (stay_ref (0 ∷ []) tt (plain (λ _. T.the_row)), (stay_none_ref (1 ∷ []) tt (plain (λ _. T.the_row)) yes, tt))
 
-module _ {M : Type 1} {𝓤 : Ura M} (𝓛 : Logic 𝓤) (at_mem : Memory → SProp 𝓤) (run : Routine → Fun 𝓤) (κ κ' : Lft) (q q' : Share) (b o : ℕ) (γ : GName) (h : History) (k : Bor History) where
+module _ {M : Type 1} {𝓤 : Ura M} (𝓛 : Logic 𝓤) (at_mem : Memory → SProp 𝓤) (run : Routine → Fun 𝓤) (κ κ' : Lft) (q q' : Share) (b o : ℕ) (γ : GName) (h : PageHistory) (k : Bor PageHistory) where
   open 𝓛 use {H, A}
 
   abbrev x : Arg
   x = (record { ref_ptr = (b, o); ghost_name = γ; now = h }, (k, tt))
 
-  abbrev h' : History
+  abbrev h' : PageHistory
   h' = record { marker = h.marker; transfers = h.transfers ++ k.now.transfers }
 
   abbrev at : List Val × (List Val × Unit {0})

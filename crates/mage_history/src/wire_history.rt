@@ -7,9 +7,9 @@ use std::marker::{Model, PhantomData};
 /// The wires that passed so far, the oldest first. It takes no bytes, and its calls do nothing when
 /// the program runs. What is noted is tied to what happened by whoever keeps it.
 #[derive(Drop)]
-pub(crate) struct WireHistory {
+pub struct WireHistory {
     marker: PhantomData<u8>,
-    pub(crate) ghost wires: { List (List ℕ) },
+    pub ghost wires: { List (List ℕ) },
 }
 
 impl Model for WireHistory {
@@ -18,7 +18,7 @@ impl Model for WireHistory {
 
 impl WireHistory {
     /// No wire yet.
-    pub(crate) fn new() -> WireHistory
+    pub fn new() -> WireHistory
         ensures { result.wires ≡ [] }
     {
         WireHistory {
@@ -27,7 +27,7 @@ impl WireHistory {
     }
 
     /// A wire of these bytes passed.
-    pub(crate) fn note(&mut self, _wire: &[u8])
+    pub fn note(&mut self, _wire: &[u8])
         ensures { self.new.wires ≡ self.old.wires ++ _wire.now ∷ [] }
     {}
 }

@@ -21,17 +21,17 @@ use denote.Triple.Entry.{on_entry}
 use denote.Triple.Spec.{Meets, triple_of}
 use denote.Triple.Table.{entered}
 use denote.Triple.Walked.{says, ends_at, walked, walk_Meets}
-use Rattle.mage_port.specs.declared.history.History.{History}
-use Rattle.mage_port.specs.contracts.history.History as T
-use Rattle.mage_port.specs.contracts.history.History.new.Key.{name as #it}
-use Rattle.mage_port.specs.contracts.history.History.new as it
-use Rattle.mage_port.proofs.history.History.new.Statement as stated
-use Rattle.mage_port.proofs.history.History.new.Code as code
+use Rattle.mage_history.specs.declared.page_history.PageHistory.{PageHistory}
+use Rattle.mage_history.specs.contracts.page_history.PageHistory as T
+use Rattle.mage_history.specs.contracts.page_history.PageHistory.new.Key.{name as #it}
+use Rattle.mage_history.specs.contracts.page_history.PageHistory.new as it
+use Rattle.mage_history.proofs.page_history.PageHistory.new.Statement as stated
+use Rattle.mage_history.proofs.page_history.PageHistory.new.Code as code
 
 abbrev v : Val
 v = vstruct (vcons (vstruct vnil) vnil)
 
-abbrev r : History
+abbrev r : PageHistory
 r = record { marker = record {}; transfers = [] }
 
 meets : {M : Type 1} {𝓤 : Ura M} (𝓛 : Logic 𝓤) → (at_mem : Memory → SProp 𝓤) (run : Routine → Fun 𝓤) (𝓣 : Tables 𝓤 𝓛.H)

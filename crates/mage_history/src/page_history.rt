@@ -8,21 +8,21 @@ use std::marker::{Model, PhantomData};
 /// The transfers that were made so far, in order. It takes no bytes, and its calls do nothing when the program runs: so a
 /// port can say what passed through it without keeping it. What is noted is tied to what happened by whoever keeps it.
 #[derive(Drop)]
-pub struct History {
+pub struct PageHistory {
     marker: PhantomData<u8>,
     pub ghost transfers: { List Transfer },
 }
 
-impl Model for History {
+impl Model for PageHistory {
     ghost also_owns = { λ _. ftrue };
 }
 
-impl History {
+impl PageHistory {
     /// No transfer yet.
-    pub fn new() -> History
+    pub fn new() -> PageHistory
         ensures { result.transfers ≡ [] }
     {
-        History {
+        PageHistory {
             marker: PhantomData,
         }
     }
@@ -38,6 +38,6 @@ impl History {
     {}
 }
 
-unsafe impl Send for History {}
+unsafe impl Send for PageHistory {}
 
-unsafe impl Sync for History {}
+unsafe impl Sync for PageHistory {}

@@ -25,13 +25,13 @@ use denote.Triple.Entry.{on_entry}
 use denote.Triple.Spec.{Meets, triple_of}
 use denote.Triple.Table.{entered}
 use denote.Triple.Walked.{says, Stays, stay_ref, walk_of, AllGo, Goes-ref, Walks, ends_at, walked, walk_Meets}
-use Rattle.mage_port.specs.declared.history.History.{History}
+use Rattle.mage_history.specs.declared.page_history.PageHistory.{PageHistory}
 use Rattle.mage_base.specs.Store.{Wrote}
-use Rattle.mage_port.specs.contracts.history.History as T
-use Rattle.mage_port.specs.contracts.history.History.note_write.Key.{name as #it}
-use Rattle.mage_port.specs.contracts.history.History.note_write as it
-use Rattle.mage_port.proofs.history.History.note_write.Statement as stated
-use Rattle.mage_port.proofs.history.History.note_write.Code as code
+use Rattle.mage_history.specs.contracts.page_history.PageHistory as T
+use Rattle.mage_history.specs.contracts.page_history.PageHistory.note_write.Key.{name as #it}
+use Rattle.mage_history.specs.contracts.page_history.PageHistory.note_write as it
+use Rattle.mage_history.proofs.page_history.PageHistory.note_write.Statement as stated
+use Rattle.mage_history.proofs.page_history.PageHistory.note_write.Code as code
 use denote.Ref.{Bor}
 use denote.Builtin.{u8, u32}
 use denote.Exit.{yes}
@@ -40,18 +40,18 @@ use denote.Triple.Walked.{stay_none_ref, Goes-none_ref, stay_none_slice, Goes-no
 use Rattle.std.proofs.Common.{◌<◌, ◌^◌, length}
 
 abbrev Arg : Type 0
-Arg = MutBor History × (Bor ℕ × (Bor (List ℕ) × Unit {0}))
+Arg = MutBor PageHistory × (Bor ℕ × (Bor (List ℕ) × Unit {0}))
 
 abbrev stayed : Stays (it.ended).signature.params (it.ended).kept
 stayed = (stay_ref (0 ∷ []) tt (plain (λ _. T.the_row)), (stay_none_ref (1 ∷ []) tt (plain (λ _. u32)) yes, (stay_none_slice (2 ∷ []) tt (plain (λ _. u8)) yes, tt)))
 
-module _ {M : Type 1} {𝓤 : Ura M} (𝓛 : Logic 𝓤) (at_mem : Memory → SProp 𝓤) (run : Routine → Fun 𝓤) (κ κ' κ'' : Lft) (q q' q'' : Share) (b o : ℕ) (γ : GName) (h : History) (k : Bor ℕ) (s : Bor (List ℕ)) where
+module _ {M : Type 1} {𝓤 : Ura M} (𝓛 : Logic 𝓤) (at_mem : Memory → SProp 𝓤) (run : Routine → Fun 𝓤) (κ κ' κ'' : Lft) (q q' q'' : Share) (b o : ℕ) (γ : GName) (h : PageHistory) (k : Bor ℕ) (s : Bor (List ℕ)) where
   open 𝓛 use {H, A}
 
   abbrev x : Arg
   x = (record { ref_ptr = (b, o); ghost_name = γ; now = h }, (k, (s, tt)))
 
-  abbrev h' : History
+  abbrev h' : PageHistory
   h' = record { marker = h.marker; transfers = h.transfers ++ Wrote k.now s.now ∷ [] }
 
   abbrev at : List Val × (List Val × (List Val × Unit {0}))

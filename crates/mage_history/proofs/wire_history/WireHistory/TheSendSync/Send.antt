@@ -1,6 +1,6 @@
 -- A history owns nothing, so it may go to any thread.
 use denote.Param.Send.{IsSend}
-use Rattle.mage_link.specs.contracts.wire_history.WireHistory.{the_row}
+use Rattle.mage_history.specs.contracts.wire_history.WireHistory.{the_row}
 
 pub send : IsSend the_row
 send = record { owned = λ d vs. ((λ vss. (tt, ((λ uss. (tt, tt)), tt))), tt); leaving = λ k f vs. tt }

@@ -28,12 +28,12 @@ use denote.Triple.Entry.{on_entry}
 use denote.Triple.Spec.{Meets, triple_of}
 use denote.Triple.Table.{entered}
 use denote.Triple.Walked.{says, Stays, stay_ref, walk_of, AllGo, Goes-ref, Walks, ends_at, walked, walk_Meets, stay_none_slice, Goes-none_slice}
-use Rattle.mage_link.specs.declared.wire_history.WireHistory.{WireHistory}
-use Rattle.mage_link.specs.contracts.wire_history.WireHistory as T
-use Rattle.mage_link.specs.contracts.wire_history.WireHistory.note.Key.{name as #it}
-use Rattle.mage_link.specs.contracts.wire_history.WireHistory.note as it
-use Rattle.mage_link.proofs.wire_history.WireHistory.note.Statement as stated
-use Rattle.mage_link.proofs.wire_history.WireHistory.note.Code as code
+use Rattle.mage_history.specs.declared.wire_history.WireHistory.{WireHistory}
+use Rattle.mage_history.specs.contracts.wire_history.WireHistory as T
+use Rattle.mage_history.specs.contracts.wire_history.WireHistory.note.Key.{name as #it}
+use Rattle.mage_history.specs.contracts.wire_history.WireHistory.note as it
+use Rattle.mage_history.proofs.wire_history.WireHistory.note.Statement as stated
+use Rattle.mage_history.proofs.wire_history.WireHistory.note.Code as code
 
 abbrev Arg : Type 0
 Arg = MutBor WireHistory × (Bor (List ℕ) × Unit {0})

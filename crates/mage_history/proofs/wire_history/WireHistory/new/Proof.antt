@@ -21,12 +21,12 @@ use denote.Triple.Entry.{on_entry}
 use denote.Triple.Spec.{Meets, triple_of}
 use denote.Triple.Table.{entered}
 use denote.Triple.Walked.{says, ends_at, walked, walk_Meets}
-use Rattle.mage_link.specs.declared.wire_history.WireHistory.{WireHistory}
-use Rattle.mage_link.specs.contracts.wire_history.WireHistory as T
-use Rattle.mage_link.specs.contracts.wire_history.WireHistory.new.Key.{name as #it}
-use Rattle.mage_link.specs.contracts.wire_history.WireHistory.new as it
-use Rattle.mage_link.proofs.wire_history.WireHistory.new.Statement as stated
-use Rattle.mage_link.proofs.wire_history.WireHistory.new.Code as code
+use Rattle.mage_history.specs.declared.wire_history.WireHistory.{WireHistory}
+use Rattle.mage_history.specs.contracts.wire_history.WireHistory as T
+use Rattle.mage_history.specs.contracts.wire_history.WireHistory.new.Key.{name as #it}
+use Rattle.mage_history.specs.contracts.wire_history.WireHistory.new as it
+use Rattle.mage_history.proofs.wire_history.WireHistory.new.Statement as stated
+use Rattle.mage_history.proofs.wire_history.WireHistory.new.Code as code
 
 abbrev v : Val
 v = vstruct (vcons (vstruct vnil) vnil)
