@@ -82,9 +82,9 @@ compact held from to less fits =
     ap (λ (k : ℕ). take k (paste held 0 (drop from held) n)) (sym e) ∙ pasted
 
 -- more is held
-pub refilled : (left : List ℕ) (ready at : ℕ) (steady steady' : Bool) (faults faults' : ℕ) (told : Bool) → steady' ≡ steady → faults' ≡ faults →
-    ◌≡◌ {A = Incoming} (record { left = left; ready = ready; at = at; steady = steady'; faults = faults'; told = told }) (record { left = left; ready = ready; at = at; steady = steady; faults = faults; told = told })
-refilled left ready at steady steady' faults faults' told b c = rw (b, c) refl
+pub refilled : (left : List ℕ) (ready at : ℕ) (steady steady' : Bool) (faults faults' : ℕ) (told told' : Bool) → steady' ≡ steady → faults' ≡ faults → told' ≡ told →
+    ◌≡◌ {A = Incoming} (record { left = left; ready = ready; at = at; steady = steady'; faults = faults'; told = told' }) (record { left = left; ready = ready; at = at; steady = steady; faults = faults; told = told })
+refilled left ready at steady steady' faults faults' told told' b c d = rw (b, c, d) refl
 
 pub drop_next : {X : Type 0} (place count : ℕ) (xs : List X) → drop (suc count) (drop place xs) ≡ drop count (drop (place + 1) xs)
 drop_next place count xs =

@@ -8,7 +8,7 @@ use mage_base::{Failed, Source};
 // Takes some bytes more, and answers how many there are now. No more than before means that the source has ended.
 fn take_more<R: Source>(source: &mut R, buffer: &mut [u8], ready: usize) -> Result<usize, Failed>
     requires room { ready < length buffer.old }
-    ensures told { IsTrue (tells_left (R.tells source.old)) → IsTrue (tells_left (R.tells source.new)) }
+    ensures told { tells_left (R.tells source.new) ≡ tells_left (R.tells source.old) }
     ensures within { IfOk result (λ now. (ready ≤ now) × (now ≤ length buffer.new)) }
     ensures same { IfOk result (λ now. IsTrue (tells_left (R.tells source.old))
         → take now buffer.new ++ unwrap_or (R.tells source.new).left []
@@ -31,7 +31,7 @@ pub(crate) fn fill<R: Source>(
     due: usize,
 ) -> Result<usize, Failed>
     requires room { (ready ≤ due) × (due ≤ length buffer.old) }
-    ensures told { IsTrue (tells_left (R.tells source.old)) → IsTrue (tells_left (R.tells source.new)) }
+    ensures told { tells_left (R.tells source.new) ≡ tells_left (R.tells source.old) }
     ensures within { IfOk result (λ now. now ≤ length buffer.new) }
     ensures same { IfOk result (λ now. IsTrue (tells_left (R.tells source.old))
         → take now buffer.new ++ unwrap_or (R.tells source.new).left []

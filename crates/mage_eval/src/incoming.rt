@@ -7,32 +7,22 @@ ghost use Rattle.mage_eval.specs.Reading.{Fails, after_bytes, tells_left, wrong_
 use crate::filling::fill;
 use mage_base::{Failed, Source};
 use mage_instr::DriverFault;
-use mage_mark::{Mark, Test};
 use std::marker::Model;
 
 /// How many bytes are held at most.
 pub(crate) const MOST_HELD: usize = 4096;
 
-// Whether a source tells what it has left.
-struct TellsLeft;
-
-impl<R: Source> Test<R> for TellsLeft {
-    ghost says = { λ source. tells_left (R.tells source) };
-}
-
-/// Bytes that are taken from a source in larger pieces than are due. Where the source told at first what it had left, it tells
-/// so still.
+/// Bytes that are taken from a source in larger pieces than are due.
 pub(crate) struct Stream<R: Source> {
     source: R,
     held: [u8; MOST_HELD],
     from: usize,
     to: usize,
     at: u64,
-    told: Mark,
 }
 
 impl<R: Source> Model for Stream<R> {
-    ghost use Rattle.std.specs.Prelude.{◌≡◌, ◌≤◌, ◌-◌, ◌++◌, [], IsTrue, drop, take, unwrap_or};
+    ghost use Rattle.std.specs.Prelude.{◌≡◌, ◌≤◌, ◌-◌, ◌++◌, [], drop, take, unwrap_or};
     ghost use Rattle.mage_eval.specs.Reading.{Incoming, tells_left};
 
     ghost Value = { Incoming };
@@ -43,10 +33,10 @@ impl<R: Source> Model for Stream<R> {
       at = s.at;
       steady = (R.tells s.source).steady;
       faults = (R.tells s.source).faults;
-      told = s.told.said;
+      told = tells_left (R.tells s.source);
     } };
 
-    ghost invariant = { λ s. (IsTrue s.told.said → IsTrue (tells_left (R.tells s.source))) × (s.from ≤ s.to) × (s.to ≤ 4096) };
+    ghost invariant = { λ s. (s.from ≤ s.to) × (s.to ≤ 4096) };
 }
 
 impl<R: Source> Stream<R> {
@@ -61,14 +51,12 @@ impl<R: Source> Stream<R> {
           told = tells_left (R.tells source);
         } }
     {
-        let told = Mark::of::<R, TellsLeft>(&source);
         Stream {
             source,
             held: [0; MOST_HELD],
             from: 0,
             to: 0,
             at: 0,
-            told,
         }
     }
 
@@ -173,7 +161,6 @@ impl<R: Source> Stream<R> {
             from: _,
             to: _,
             at: _,
-            told: _,
         } = self;
         source
     }

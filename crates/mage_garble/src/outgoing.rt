@@ -6,30 +6,20 @@ ghost use Rattle.mage_garble.specs.Sending.{Broke, flushed, most_waiting, sendin
 
 use mage_base::{Failed, Memory, Sink};
 use mage_instr::DriverFault;
-use mage_mark::{Mark, Test};
 use std::alloc::Global;
 use std::marker::Model;
 
 // How many bytes may wait.
 const MOST_WAITING: usize = 4096;
 
-// Whether a sink tells what it has taken.
-struct TellsTaken;
-
-impl<K: Sink> Test<K> for TellsTaken {
-    ghost says = { λ sink. tells_taken (K.tells sink) };
-}
-
-/// Bytes that wait to be put into a sink together, so that few calls of it are made. Where the sink told at first what it had
-/// taken, it tells so still.
+/// Bytes that wait to be put into a sink together, so that few calls of it are made.
 pub(crate) struct Outgoing<K: Sink> {
     sink: K,
     waiting: Vec<u8>,
-    told: Mark,
 }
 
 impl<K: Sink> Model for Outgoing<K> {
-    ghost use Rattle.std.specs.Prelude.{◌≤◌, IsTrue, vec_len, vec_capacity};
+    ghost use Rattle.std.specs.Prelude.{◌≤◌, vec_len, vec_capacity};
     ghost use Rattle.mage_garble.specs.Sending.{Outgoing, most_waiting, sending_to, tells_taken, with_waiting};
 
     ghost Value = { Outgoing };
@@ -37,11 +27,10 @@ impl<K: Sink> Model for Outgoing<K> {
     ghost view = { λ o. record {
       sending = with_waiting (sending_to (K.tells o.sink)) o.waiting.items;
       faults = (K.tells o.sink).faults;
-      told = o.told.said;
+      told = tells_taken (K.tells o.sink);
     } };
 
-    ghost invariant = { λ o. (IsTrue o.told.said → IsTrue (tells_taken (K.tells o.sink)))
-        × (vec_len o.waiting ≤ most_waiting) × (most_waiting ≤ vec_capacity o.waiting) };
+    ghost invariant = { λ o. (vec_len o.waiting ≤ most_waiting) × (most_waiting ≤ vec_capacity o.waiting) };
 }
 
 impl<K: Sink> Outgoing<K> {
@@ -54,13 +43,8 @@ impl<K: Sink> Outgoing<K> {
         }) }
         ensures back { IfErr result (λ failed. failed.0 ≡ sink) }
     {
-        let told = Mark::of::<K, TellsTaken>(&sink);
         match Vec::with_capacity(alloc, MOST_WAITING) {
-            Ok(waiting) => Ok(Outgoing {
-                sink,
-                waiting,
-                told,
-            }),
+            Ok(waiting) => Ok(Outgoing { sink, waiting }),
             Err(_) => Err((sink, Memory)),
         }
     }
@@ -113,18 +97,13 @@ impl<K: Sink> Outgoing<K> {
 
     /// Hands the sink back. What waits is lost.
     pub(crate) fn into_sink(self) -> K
-        ensures sink { self ≡ record {
+        ensures { self ≡ record {
           sending = with_waiting (sending_to (K.tells result)) self.sending.waiting;
           faults = (K.tells result).faults;
-          told = self.told;
+          told = tells_taken (K.tells result);
         } }
-        ensures told { IsTrue self.told → IsTrue (tells_taken (K.tells result)) }
     {
-        let Outgoing {
-            sink,
-            waiting: _,
-            told: _,
-        } = self;
+        let Outgoing { sink, waiting: _ } = self;
         sink
     }
 }

@@ -5,7 +5,7 @@ use Rattle.mage_eval.proofs.filling.fill.Given as goal
 
 abbrev pub invariant-loop-now : goal.invariant-loop-now
 invariant-loop-now g l = record {
-  told : IsTrue (tells_left (g.R.Source.tells l.initial.source)) → IsTrue (tells_left (g.R.Source.tells l.source));
+  told : tells_left (g.R.Source.tells l.source) ≡ tells_left (g.R.Source.tells l.initial.source);
   within : l.now ≤ length l.buffer;
   same : IsTrue (tells_left (g.R.Source.tells l.initial.source)) → take l.now l.buffer ++ unwrap_or (g.R.Source.tells l.source).left []
       ≡ take l.ready l.initial.buffer ++ unwrap_or (g.R.Source.tells l.initial.source).left [];

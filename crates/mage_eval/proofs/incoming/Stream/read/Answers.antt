@@ -9,4 +9,4 @@ returns-clause-left g c =
     let held : length s.held ≡ 4096 = search rules in
     let here : n ≤ s.to - s.from = rw (← c.self.view_is) at c.requires in
     rw (← c.self.view_is)
-    (after_read _ n _ _ _ (read_held s.held _ s.from s.to n (omega (arith, here, c.self.invariant.1)) (omega (arith, held, c.self.invariant.2))) (omega arith) c.saturating_add-self-inside.ensures)
+    (after_read _ n _ _ _ (read_held s.held _ s.from s.to n (omega (arith, here, c.self.invariant.0)) (omega (arith, held, c.self.invariant.1))) (omega arith) c.saturating_add-self-inside.ensures)

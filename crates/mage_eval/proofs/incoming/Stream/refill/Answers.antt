@@ -11,9 +11,9 @@ returns-clause-same g c = rw (← c.self.view_is) (λ told.
     let held : length s.held ≡ 4096 = search rules in
     let now = c.in-Ok.now in
     let none : now - 0 ≡ now = omega arith in
-    ap (λ (k : ℕ). take k c.fill.new.buffer ++ src') none ∙ c.in-Ok.ensures.same (c.self.invariant.0 told)
+    ap (λ (k : ℕ). take k c.fill.new.buffer ++ src') none ∙ c.in-Ok.ensures.same told
     ∙ ap (λ (xs : List ℕ). take (s.to - s.from) xs ++ src) c.copy_within.ensures.after
-    ∙ ap (λ (xs : List ℕ). xs ++ src) (compact s.held s.from s.to c.self.invariant.1 (omega (arith, held, c.self.invariant.2))))
+    ∙ ap (λ (xs : List ℕ). xs ++ src) (compact s.held s.from s.to c.self.invariant.0 (omega (arith, held, c.self.invariant.1))))
 
 pub returns-clause-rest : goal.returns-clause-rest
-returns-clause-rest g c = rw (← c.self.view_is) (refilled _ _ c.self.inside.at _ _ _ _ _ c.in-Ok.ensures.rest c.in-Ok.ensures.cause)
+returns-clause-rest g c = rw (← c.self.view_is) (refilled _ _ c.self.inside.at _ _ _ _ _ _ c.in-Ok.ensures.rest c.in-Ok.ensures.cause c.in-Ok.ensures.told)

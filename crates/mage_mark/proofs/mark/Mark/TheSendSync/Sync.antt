@@ -1,7 +1,0 @@
--- A mark owns nothing, so any thread may share it.
-use denote.Param.Send.{IsSync, part_keyless}
-use Rattle.mage_mark.specs.contracts.mark.Mark.{the_row}
-use Rattle.mage_mark.proofs.mark.Mark.TheSendSync.Send.{send}
-
-pub sync : IsSync the_row
-sync = record { shared = λ d b o κ q. part_keyless the_row send q d b o }
