@@ -44,11 +44,12 @@ pub trait Desk {
         ensures rest { tells self.new
             ≡ record (tells self.old) { faults = (tells self.new).faults } };
 
-    /// Takes a source back. Its faults are counted: the count stays where the source has none.
+    /// Takes a source back. Its faults are counted: the count never falls, and stays where the source has none.
     fn close_in(&mut self, name: &str, source: Self::Input)
         ensures counted { tells self.new ≡ record (tells self.old) {
           faults = count_after (tells self.old).faults (Self.Input.tells source).faults;
         } }
+        ensures rises { (tells self.old).faults ≤ (tells self.new).faults }
         ensures quiet { (Self.Input.tells source).faults ≡ 0
             → (tells self.new).faults ≡ (tells self.old).faults };
 

@@ -189,6 +189,7 @@ impl Desk for MemDesk {
     fn close_in(&mut self, _name: &str, source: MemSource)
         ensures counted { self.new
             ≡ record self.old { faults = count_after self.old.faults source.faults } }
+        ensures rises { self.old.faults ≤ self.new.faults }
         ensures quiet { source.faults ≡ 0 → self.new.faults ≡ self.old.faults }
     {
         self.count_faults(source.faults());

@@ -1,17 +1,17 @@
 -- Sources that are opened one after the other, and closed.
-use Rattle.std.proofs.Common.{◌≡◌, ◌≤◌, ◌<◌, ◌+◌, ◌++◌, ◌∷◌, ℕ, zero, suc, min, List, [], length, get_or, map, Option, Some, None, IfSome, Err, String, refl, sym, ap, subst, ◌∙◌, length-append, arith}
+use Rattle.std.proofs.Common.{◌≡◌, ◌<◌, ◌+◌, ◌++◌, ◌∷◌, ℕ, zero, suc, List, [], length, get_or, map, Option, Some, None, IfSome, Err, String, refl, sym, ap, subst, ◌∙◌, length-append, arith}
 use Rattle.std.specs.Prelude.{IsSome, IsTrue, string_bytes}
 use Rattle.std.specs.List.{All}
 use Rattle.std.specs.Global.{Global}
 use Rattle.std.proofs.lemmas.List.{map-append}
 use Rattle.mage_base.specs.declared.failure.DeskError.{DeskError}
 use Rattle.mage_base.specs.declared.failure.DeskError.TheVariants as errors
-use Rattle.mage_base.specs.Desk.{DeskTold, Files, HandsSource, Finds, FaultCounted, IsNoFault, IsNotTooLong}
-use Rattle.mage_base.specs.Faults.{Rose, count_after, top}
+use Rattle.mage_base.specs.Desk.{DeskTold, Files, HandsSource, Finds, FaultCounted, IsNoFault}
+use Rattle.mage_base.specs.Faults.{count_after}
 use Rattle.mage_base.specs.Source.{SourceTold}
 use Rattle.mage_lending.specs.Names.{worker_file, worker_files, spelled}
 use Rattle.mage_lending.proofs.Files.{files_next, files_count}
-use Rattle.mage_lending.specs.Sources.{AreSources, ReadCounted, with_source_faults}
+use Rattle.mage_lending.specs.Sources.{AreSources, NoneHaveFailed, with_source_faults}
 
 pub sources_more : (desk : DeskTold) (names : List (List ℕ)) (sources : List SourceTold) (name : List ℕ) (source : SourceTold) →
     AreSources desk names sources → HandsSource desk name source → AreSources desk (names ++ name ∷ []) (sources ++ source ∷ [])
@@ -20,36 +20,20 @@ sources_more desk [] (s ∷ sources) name source are one = absurd are
 sources_more desk (n ∷ names) [] name source are one = absurd are
 sources_more desk (n ∷ names) (s ∷ sources) name source are one = (are.0, sources_more desk names sources name source are.1 one)
 
-none_more : (n k : ℕ) → k ≡ 0 → n ≤ top → count_after n k ≡ n
-none_more n k none small = within n k top none small
-  where
-    within : (n k t : ℕ) → k ≡ 0 → n ≤ t → min (n + k) t ≡ n
-    within n k t none small = omega (arith, none, small)
+-- sources that were just opened have not failed
+pub none_have_failed : (desk : DeskTold) (names : List (List ℕ)) (sources : List SourceTold) → AreSources desk names sources → NoneHaveFailed sources
+none_have_failed desk [] [] are = tt
+none_have_failed desk [] (s ∷ sources) are = absurd are
+none_have_failed desk (n ∷ names) [] are = absurd are
+none_have_failed desk (n ∷ names) (s ∷ sources) are = (are.0.no_fault, none_have_failed desk names sources are.1)
 
--- sources that had no fault leave the count
-left_as : (desk : DeskTold) (names : List (List ℕ)) (sources : List SourceTold) (faults : ℕ) → AreSources desk names sources → faults ≤ top →
-    with_source_faults faults sources ≡ faults
-left_as desk [] [] faults are small = refl
-left_as desk [] (s ∷ sources) faults are small = absurd are
-left_as desk (n ∷ names) [] faults are small = absurd are
-left_as desk (n ∷ names) (s ∷ sources) faults are small =
-    ap (λ (f : ℕ). with_source_faults f sources) (none_more faults s.faults are.0.no_fault small) ∙ left_as desk names sources faults are.1 small
-
-rose_one : (b n k t : ℕ) → min (b + 1) t ≤ n → min (b + 1) t ≤ min (n + k) t
-rose_one b n k t rose = omega (arith, rose)
-
--- a count that rose has risen still
-rose_still : (before faults : ℕ) (sources : List SourceTold) → Rose before faults → Rose before (with_source_faults faults sources)
-rose_still before faults [] rose = rose
-rose_still before faults (s ∷ sources) rose = rose_still before (count_after faults s.faults) sources (rose_one before faults s.faults top rose)
-
-pub read_counted : (T U : Type 0) (desk : DeskTold) (names : List (List ℕ)) (sources : List SourceTold) (before between after : ℕ) (e : DeskError) →
-    AreSources desk names sources → IsNotTooLong {T = T} (Err e) → FaultCounted {T = T} before between (Err e) → after ≡ with_source_faults between sources →
-    ReadCounted {T = U} before after (Err e)
-read_counted T U desk names sources before between after errors.Fault are short counted is = subst (Rose before) (sym is) (rose_still before between sources counted.1)
-read_counted T U desk names sources before between after errors.TooLong are short counted is = absurd short
-read_counted T U desk names sources before between after errors.Memory are short counted is =
-    λ small. is ∙ ap (λ (n : ℕ). with_source_faults n sources) counted ∙ left_as desk names sources before are small
+-- a count that stays as what was opened is closed
+pub read_counted : (T U : Type 0) (before between after : ℕ) (e : DeskError) → FaultCounted {T = T} before between (Err e) → after ≡ between → FaultCounted {T = U} before after (Err e)
+read_counted T U before between after e counted same = subst (λ (n : ℕ). FaultCounted {T = U} before n (Err e)) (sym same) (so e counted) where
+  so : (e : DeskError) → FaultCounted {T = T} before between (Err e) → FaultCounted {T = U} before between (Err e)
+  so errors.Fault counted = counted
+  so errors.TooLong counted = counted
+  so errors.Memory counted = counted
 
 -- ---- names that are there
 
@@ -143,3 +127,13 @@ sources_next {S} tells old new whole rest others source is closed leads =
 pub sources_end : {S : Type 0} (tells : S → SourceTold) (now whole : DeskTold) (rest : List S) → length rest ≡ 0 → after_sources now (map tells rest) ≡ whole → now ≡ whole
 sources_end tells now whole [] none leads = leads
 sources_end tells now whole (source ∷ others) none leads = absurd (omega (arith, none))
+
+-- and what is known of the count where none has failed
+pub quiet_begin : {S : Type 0} (tells : S → SourceTold) (sources rest : List S) (faults : ℕ) → rest ≡ sources → NoneHaveFailed (map tells sources)
+    → NoneHaveFailed (map tells rest) × (faults ≡ faults)
+quiet_begin {S} tells sources rest faults is none = (subst (λ (l : List S). NoneHaveFailed (map tells l)) (sym is) none, refl)
+
+pub quiet_next : {S : Type 0} (tells : S → SourceTold) (rest others : List S) (source : S) (before old new : ℕ) → rest ≡ source ∷ others → ((tells source).faults ≡ 0 → new ≡ old)
+    → NoneHaveFailed (map tells rest) × (old ≡ before) → NoneHaveFailed (map tells others) × (new ≡ before)
+quiet_next {S} tells rest others source before old new is stays so =
+    let none = subst (λ (l : List S). NoneHaveFailed (map tells l)) is so.0 in (none.1, stays none.0 ∙ so.1)

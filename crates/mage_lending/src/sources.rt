@@ -3,7 +3,7 @@ ghost use Rattle.std.specs.Prelude.{◌≡◌, ◌≤◌, [], length, map, IsTru
 ghost use Rattle.std.specs.List.{All};
 ghost use Rattle.mage_base.specs.Desk.{FaultCounted, IsNoFault, IsNotTooLong};
 ghost use Rattle.mage_lending.specs.Names.{worker_files, spelled};
-ghost use Rattle.mage_lending.specs.Sources.{AreSources, ReadCounted, with_source_faults};
+ghost use Rattle.mage_lending.specs.Sources.{AreSources, NoneHaveFailed, with_source_faults};
 
 use crate::names::worker_file;
 use mage_base::{Desk, DeskError, Memory};
@@ -81,7 +81,8 @@ pub fn open_sources<D: Desk>(
         (worker_files prefix.now 0 workers) (map D.Input.tells opened.sources.items)) }
     ensures count { IfOk result (λ opened. (length opened.names.items ≡ workers)
         × (length opened.sources.items ≡ workers)) }
-    ensures cause { ReadCounted (D.tells desk.old).faults (D.tells desk.new).faults result }
+    ensures short { IsNotTooLong result }
+    ensures cause { FaultCounted (D.tells desk.old).faults (D.tells desk.new).faults result }
     ensures steady { IsTrue (D.tells desk.old).steady
         → IfSome (D.tells desk.old).files (λ files.
         All (λ name. IsSome (files name)) (worker_files prefix.now 0 workers) → IsNoFault result) }
@@ -101,13 +102,17 @@ pub fn open_sources<D: Desk>(
     }
 }
 
-/// Closes the workers' sources, in the order of the workers. Their faults are counted.
+/// Closes the workers' sources, in the order of the workers. Their faults are counted: the count never falls, and stays where no
+/// source has one.
 pub fn close_sources<D: Desk>(desk: &mut D, names: &[String], sources: Vec<D::Input>)
     requires { length names.now ≡ length sources.items }
-    ensures { D.tells desk.new ≡ record (D.tells desk.old) {
+    ensures counted { D.tells desk.new ≡ record (D.tells desk.old) {
       faults = with_source_faults (D.tells desk.old).faults
           (map D.Input.tells sources.items);
     } }
+    ensures rises { (D.tells desk.old).faults ≤ (D.tells desk.new).faults }
+    ensures quiet { NoneHaveFailed (map D.Input.tells sources.items)
+        → (D.tells desk.new).faults ≡ (D.tells desk.old).faults }
 {
     let mut worker = 0;
     for source in sources {
