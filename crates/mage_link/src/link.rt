@@ -1,7 +1,7 @@
 // One link on one thread.
 use crate::Wire16;
-use mage_history::WireHistory;
 use circular_buffer::HeapCircularBuffer;
+use mage_history::WireHistory;
 
 /// The wires that lie in a link, in a queue of fixed room, and those that were received from it.
 #[derive(Drop)]

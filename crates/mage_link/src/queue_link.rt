@@ -6,10 +6,10 @@ ghost use Rattle.mage_link.specs.Queues.{new_queues, queue_told, lies_in, HasPla
 ghost use Rattle.mage_link.specs.Rows.{rows_of, new_link, link_in, HasLink, Pushes, Pops};
 
 use crate::link::Link;
-use mage_history::WireHistory;
 use crate::{Full, LinkPort, Wire16};
 use circular_buffer::HeapCircularBuffer;
 use mage_base::Memory;
+use mage_history::WireHistory;
 use std::alloc::Global;
 use std::marker::Model;
 

@@ -101,7 +101,12 @@ fn reach(logs: &mut Vec<PageHistory>, worker: u16) -> Result<(), Memory>
 }
 
 // Notes that a store is handed out, and takes room for the log of its worker.
-fn lend(ledger: &mut Ledger, logs: &mut Vec<PageHistory>, worker: u16, shard: u16) -> Result<(), Memory>
+fn lend(
+    ledger: &mut Ledger,
+    logs: &mut Vec<PageHistory>,
+    worker: u16,
+    shard: u16,
+) -> Result<(), Memory>
     ensures ok { OnOk result (ledger.new.lent
         ≡ ledger.old.lent ++ record { worker = worker; shard = shard } ∷ []) }
     ensures err { OnErr result (ledger.new.lent ≡ ledger.old.lent) }

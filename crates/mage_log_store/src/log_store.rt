@@ -6,7 +6,7 @@ ghost use Rattle.mage_base.specs.Store.{Reads, Writes, zero_page};
 ghost use Rattle.mage_log_store.specs.LogStore.{new_state, log_told, flipped, lied, cannot_move, answer_of, after_read_of, after_write_of};
 
 use crate::Lie;
-use mage_base::{overwrite, zero_pages, Failed, Items, Memory, Store, StoreCounts};
+use mage_base::{Failed, Items, Memory, Store, StoreCounts, overwrite, zero_pages};
 use mage_history::PageHistory;
 use std::alloc::Global;
 use std::marker::Model;
