@@ -1,68 +1,10 @@
-// Small memory programs on pages of 64 wires, with one frame or two and a buffer of one slot.
-ghost use Rattle.std.specs.Prelude.{◌≡◌, ◌<◌, ◌≤◌, length, slice_get, true, IfOk};
+// The parts of small memory programs.
 ghost use Rattle.mage_directives.specs.Directives.{IsMemProgram};
-ghost use Rattle.mage_instr.specs.Limits.{AreInRange};
-ghost use Rattle.mage_verify.specs.Literals.{AreDirectives};
 
 use mage_base::Memory;
-use mage_instr::{Directive, Limits, MemProgram};
+use mage_instr::{Directive, MemProgram};
 use mage_verify::{Part, verify};
-use sqlite_items::Items;
 use std::alloc::Global;
-
-fn limits(frames: u32) -> Limits
-    requires { (1 ≤ frames) × (frames ≤ 2) }
-    ensures { AreInRange result }
-{
-    Limits {
-        page: 64,
-        frames,
-        buffer: 1,
-        ahead: 0,
-    }
-}
-
-// The program of one worker, whose store has one page.
-fn one_worker(alloc: Global, frames: u32, directives: &[Directive]) -> Result<MemProgram, Memory>
-    requires frames { (1 ≤ frames) × (frames ≤ 2) }
-    requires count { length directives.now < 100 }
-    requires fields { AreDirectives 1 0 directives.now }
-    ensures { IfOk result IsMemProgram }
-{
-    let mut stores = Items::new(alloc);
-    stores.push(1)?;
-    let mut workers = Items::new(alloc);
-    workers.push(Items::from_slice(alloc, directives)?)?;
-    Ok(MemProgram {
-        limits: limits(frames),
-        stores,
-        workers,
-    })
-}
-
-// The program of two workers, whose stores have no page.
-fn two_workers(
-    alloc: Global,
-    first: &[Directive],
-    second: &[Directive],
-) -> Result<MemProgram, Memory>
-    requires count { (length first.now < 100) × (length second.now < 100) }
-    requires first { AreDirectives 2 0 first.now }
-    requires second { AreDirectives 2 1 second.now }
-    ensures { IfOk result IsMemProgram }
-{
-    let mut stores = Items::new(alloc);
-    stores.push(0)?;
-    stores.push(0)?;
-    let mut workers = Items::new(alloc);
-    workers.push(Items::from_slice(alloc, first)?)?;
-    workers.push(Items::from_slice(alloc, second)?)?;
-    Ok(MemProgram {
-        limits: limits(2),
-        stores,
-        workers,
-    })
-}
 
 // The parts of a program; none where it has a fault.
 fn parts_of(alloc: Global, plan: MemProgram) -> Option<Vec<Part>>
@@ -74,29 +16,19 @@ fn parts_of(alloc: Global, plan: MemProgram) -> Option<Vec<Part>>
     }
 }
 
-/// The part of one worker, whose store has one page. `Memory` too where the directives have a fault.
-pub fn part_of(alloc: Global, frames: u32, directives: &[Directive]) -> Result<Part, Memory>
-    requires frames { (1 ≤ frames) × (frames ≤ 2) }
-    requires count { length directives.now < 100 }
-    requires fields { AreDirectives 1 0 directives.now }
+/// The part of a program's last worker. `Memory` too where the directives have a fault.
+pub fn part_of(alloc: Global, plan: MemProgram) -> Result<Part, Memory>
+    requires { IsMemProgram plan }
 {
-    let plan = one_worker(alloc, frames, directives)?;
     parts_of(alloc, plan)
         .and_then(|mut parts| parts.pop())
         .ok_or(Memory)
 }
 
-/// The parts of two workers, whose stores have no page. `Memory` too where the directives have a fault.
-pub fn pair_of(
-    alloc: Global,
-    first: &[Directive],
-    second: &[Directive],
-) -> Result<(Part, Part), Memory>
-    requires count { (length first.now < 100) × (length second.now < 100) }
-    requires first { AreDirectives 2 0 first.now }
-    requires second { AreDirectives 2 1 second.now }
+/// The parts of a program's last two workers. `Memory` too where the directives have a fault.
+pub fn pair_of(alloc: Global, plan: MemProgram) -> Result<(Part, Part), Memory>
+    requires { IsMemProgram plan }
 {
-    let plan = two_workers(alloc, first, second)?;
     match parts_of(alloc, plan) {
         Some(mut parts) => match (parts.pop(), parts.pop()) {
             (Some(second), Some(first)) => Ok((first, second)),

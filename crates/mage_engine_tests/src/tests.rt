@@ -1,6 +1,5 @@
 // Machines in plain over ports and links: values that are put out, answers one by one, and what a machine waits for or stops at.
-ghost use Rattle.std.specs.Prelude.{◌<◌, ◌≤◌, length};
-ghost use Rattle.mage_verify.specs.Literals.{AreDirectives};
+ghost use Rattle.mage_directives.specs.Directives.{IsMemProgram};
 
 use crate::{
     Answer, Handed, answers_of, hands_over, leaves_at, over_port, pair_of, part_of, plainly,
@@ -8,8 +7,9 @@ use crate::{
 };
 use mage_base::{Damage, Memory, StoreCounts};
 use mage_engine::{Turn, Why};
-use mage_instr::{Directive, Job, MachineFault, Op, Spot};
+use mage_instr::{MachineFault, MemProgram};
 use mage_log_store::Lie;
+use mage_small_programs::{handing_over, keeping, swapping};
 use std::alloc::Global;
 use std::test::Fail;
 
@@ -22,11 +22,10 @@ struct Run {
 
 // What so many steps of one worker answer over a store of whose calls these fail, and what it puts out, where the garbler's
 // values are 7, 8 and 9.
-fn alone(alloc: Global, directives: &[Directive], fails: &[u64], count: u32) -> Result<Run, Memory>
-    requires count { length directives.now < 100 }
-    requires fields { AreDirectives 1 0 directives.now }
+fn alone(alloc: Global, plan: MemProgram, fails: &[u64], count: u32) -> Result<Run, Memory>
+    requires { IsMemProgram plan }
 {
-    let part = part_of(alloc, 2, directives)?;
+    let part = part_of(alloc, plan)?;
     let machine = plainly(alloc, part, &[7, 8, 9], fails)?;
     let went = answers_of(alloc, machine, count)?;
     Ok(Run {
@@ -36,22 +35,20 @@ fn alone(alloc: Global, directives: &[Directive], fails: &[u64], count: u32) -> 
 }
 
 // What the store counted after these steps, of whose calls the first fails.
-fn counted(alloc: Global, directives: &[Directive], count: u32) -> Result<StoreCounts, Memory>
-    requires count { length directives.now < 100 }
-    requires fields { AreDirectives 1 0 directives.now }
+fn counted(alloc: Global, plan: MemProgram, count: u32) -> Result<StoreCounts, Memory>
+    requires { IsMemProgram plan }
 {
-    let part = part_of(alloc, 2, directives)?;
+    let part = part_of(alloc, plan)?;
     let machine = plainly(alloc, part, &[7, 8, 9], &[0])?;
     let went = answers_of(alloc, machine, count)?;
     Ok(went.port.close().counts())
 }
 
 // The same over a port where each transfer is under way for two asks.
-fn slowly(alloc: Global, directives: &[Directive], count: u32) -> Result<Run, Memory>
-    requires count { length directives.now < 100 }
-    requires fields { AreDirectives 1 0 directives.now }
+fn slowly(alloc: Global, plan: MemProgram, count: u32) -> Result<Run, Memory>
+    requires { IsMemProgram plan }
 {
-    let part = part_of(alloc, 2, directives)?;
+    let part = part_of(alloc, plan)?;
     let port = slow_for(alloc, &part, 2)?;
     let machine = over_port(alloc, part, &[7, 8, 9], port)?;
     let went = answers_of(alloc, machine, count)?;
@@ -62,16 +59,15 @@ fn slowly(alloc: Global, directives: &[Directive], count: u32) -> Result<Run, Me
 }
 
 // What the first 12 steps answer over a sealed port, where a byte of the first read is altered by this mask.
-fn lied_to(alloc: Global, directives: &[Directive], mask: u8) -> Result<Vec<Answer>, Memory>
-    requires count { length directives.now < 100 }
-    requires fields { AreDirectives 1 0 directives.now }
+fn lied_to(alloc: Global, plan: MemProgram, mask: u8) -> Result<Vec<Answer>, Memory>
+    requires { IsMemProgram plan }
 {
     let lie = Lie {
         read: 0,
         byte: 3,
         mask,
     };
-    let part = part_of(alloc, 2, directives)?;
+    let part = part_of(alloc, plan)?;
     let port = sealed_for(alloc, &part, &[lie])?;
     let machine = over_port(alloc, part, &[7, 8, 9], port)?;
     let went = answers_of(alloc, machine, 12)?;
@@ -79,14 +75,10 @@ fn lied_to(alloc: Global, directives: &[Directive], mask: u8) -> Result<Vec<Answ
 }
 
 // What one worker with one frame puts out, where the garbler's value is 1, and whether its write leaves the frame.
-fn in_one_frame(
-    alloc: Global,
-    directives: &[Directive],
-) -> Result<(Option<bool>, Vec<u128>), Memory>
-    requires count { length directives.now < 100 }
-    requires fields { AreDirectives 1 0 directives.now }
+fn in_one_frame(alloc: Global, plan: MemProgram) -> Result<(Option<bool>, Vec<u128>), Memory>
+    requires { IsMemProgram plan }
 {
-    let part = part_of(alloc, 1, directives)?;
+    let part = part_of(alloc, plan)?;
     let leaves = leaves_at(&part, 2);
     let machine = plainly(alloc, part, &[1], &[])?;
     let went = answers_of(alloc, machine, 7)?;
@@ -94,12 +86,10 @@ fn in_one_frame(
 }
 
 // What two workers answer that hand the value 7 over.
-fn over_links(alloc: Global, sender: &[Directive], receiver: &[Directive]) -> Result<Handed, Memory>
-    requires count { (length sender.now < 100) × (length receiver.now < 100) }
-    requires sender { AreDirectives 2 0 sender.now }
-    requires receiver { AreDirectives 2 1 receiver.now }
+fn over_links(alloc: Global, plan: MemProgram) -> Result<Handed, Memory>
+    requires { IsMemProgram plan }
 {
-    let (first, second) = pair_of(alloc, sender, receiver)?;
+    let (first, second) = pair_of(alloc, plan)?;
     let sending = plainly(alloc, first, &[7], &[])?;
     let receiving = plainly(alloc, second, &[], &[])?;
     hands_over(alloc, sending, receiving)
@@ -109,63 +99,6 @@ fn over_links(alloc: Global, sender: &[Directive], receiver: &[Directive]) -> Re
 fn is_at(answers: &[Answer], place: usize, wanted: Answer) -> bool {
     answers.get(place) == Some(&wanted)
 }
-
-const NO_SPOT: Spot = Spot {
-    frame: 0,
-    offset: 0,
-};
-
-// An instruction on the first wires of frames.
-macro_rules! job {
-    ($op:ident $width:literal $imm:literal $out:literal $arg:literal) => {
-        Directive::Do(Job {
-            op: Op::$op,
-            width: $width,
-            imm: $imm,
-            out: Spot {
-                frame: $out,
-                offset: 0,
-            },
-            args: [
-                Spot {
-                    frame: $arg,
-                    offset: 0,
-                },
-                NO_SPOT,
-                NO_SPOT,
-            ],
-        })
-    };
-}
-
-macro_rules! fresh {
-    ($frame:literal $page:literal) => {
-        Directive::Fresh {
-            frame: $frame,
-            page: $page,
-        }
-    };
-}
-
-// Three values in two frames: the second is written, read again and put out.
-const SWAPPED: [Directive; 12] = [
-    fresh!(0 0),
-    job!(Input 64 0 0 0),
-    fresh!(1 1),
-    job!(Input 64 0 1 0),
-    Directive::IssueOut {
-        slot: 0,
-        frame: 1,
-        page: 0,
-    },
-    fresh!(1 2),
-    job!(Input 64 0 1 0),
-    job!(Output 64 0 0 0),
-    Directive::FinishOut { slot: 0 },
-    Directive::IssueIn { slot: 0, page: 0 },
-    Directive::FinishIn { slot: 0, frame: 0 },
-    job!(Output 64 0 0 0),
-];
 
 // The page that comes back altered: the 64 wires of the value 8, and as many of the value 0. The digests are another program's.
 const DAMAGE: Damage = Damage {
@@ -184,7 +117,7 @@ const DAMAGE: Damage = Damage {
 
 #[test]
 fn a_page_goes_out_and_comes_in(rt: HostRuntime) -> Result<(), Fail> {
-    let run = alone(rt.alloc(), &SWAPPED, &[], 15)?;
+    let run = alone(rt.alloc(), swapping(rt.alloc())?, &[], 15)?;
     let wanted = "do do do do ask do do do finish ask finish do do ended ended ";
     assert_eq!(rt; run.words.as_str(), wanted);
     assert_eq!(rt; run.outputs.as_slice(), [7, 8].as_slice());
@@ -193,14 +126,14 @@ fn a_page_goes_out_and_comes_in(rt: HostRuntime) -> Result<(), Fail> {
 
 #[test]
 fn its_write_leaves_the_frame(rt: HostRuntime) -> Result<(), Fail> {
-    let part = part_of(rt.alloc(), 2, &SWAPPED)?;
+    let part = part_of(rt.alloc(), swapping(rt.alloc())?)?;
     assert_eq!(rt; leaves_at(&part, 4), Some(true));
     Ok(())
 }
 
 #[test]
 fn a_transfer_under_way_is_waited_for(rt: HostRuntime) -> Result<(), Fail> {
-    let run = slowly(rt.alloc(), &SWAPPED, 18)?;
+    let run = slowly(rt.alloc(), swapping(rt.alloc())?, 18)?;
     let wanted = "do do do do ask do do do slot slot finish ask slot slot finish do do ended ";
     assert_eq!(rt; run.words.as_str(), wanted);
     assert_eq!(rt; run.outputs.as_slice(), [7, 8].as_slice());
@@ -210,12 +143,12 @@ fn a_transfer_under_way_is_waited_for(rt: HostRuntime) -> Result<(), Fail> {
 // The write fails, or the read does; the fault is answered again.
 #[test]
 fn a_store_that_fails_stops_the_machine(rt: HostRuntime) -> Result<(), Fail> {
-    let run = alone(rt.alloc(), &SWAPPED, &[0], 11)?;
+    let run = alone(rt.alloc(), swapping(rt.alloc())?, &[0], 11)?;
     assert_eq!(rt;
         run.words.as_str(),
         "do do do do ask do do do store store store "
     );
-    let run = alone(rt.alloc(), &SWAPPED, &[1], 13)?;
+    let run = alone(rt.alloc(), swapping(rt.alloc())?, &[1], 13)?;
     let wanted = "do do do do ask do do do finish ask store store store ";
     assert_eq!(rt; run.words.as_str(), wanted);
     assert_eq!(rt; run.outputs.as_slice(), [7].as_slice());
@@ -225,7 +158,7 @@ fn a_store_that_fails_stops_the_machine(rt: HostRuntime) -> Result<(), Fail> {
 // After its fault a store isn't called any more.
 #[test]
 fn nothing_is_asked_after_a_fault(rt: HostRuntime) -> Result<(), Fail> {
-    let counts = counted(rt.alloc(), &SWAPPED, 15)?;
+    let counts = counted(rt.alloc(), swapping(rt.alloc())?, 15)?;
     let wanted = StoreCounts {
         reads: 0,
         writes: 0,
@@ -237,11 +170,11 @@ fn nothing_is_asked_after_a_fault(rt: HostRuntime) -> Result<(), Fail> {
 
 #[test]
 fn a_damaged_page_stops_the_machine(rt: HostRuntime) -> Result<(), Fail> {
-    let answers = lied_to(rt.alloc(), &SWAPPED, 1)?;
+    let answers = lied_to(rt.alloc(), swapping(rt.alloc())?, 1)?;
     let damaged = Err(MachineFault::Damaged(DAMAGE));
     assert!(rt; is_at(answers.as_slice(), 10, damaged));
     assert!(rt; is_at(answers.as_slice(), 11, damaged));
-    let answers = lied_to(rt.alloc(), &SWAPPED, 0)?;
+    let answers = lied_to(rt.alloc(), swapping(rt.alloc())?, 0)?;
     let words = words_of(rt.alloc(), answers.as_slice())?;
     assert_eq!(rt;
         words.as_str(),
@@ -253,18 +186,7 @@ fn a_damaged_page_stops_the_machine(rt: HostRuntime) -> Result<(), Fail> {
 // What was written is put out behind the write, from the frame that it was written from.
 #[test]
 fn a_frame_that_is_used_again_is_kept(rt: HostRuntime) -> Result<(), Fail> {
-    let directives = [
-        fresh!(0 0),
-        job!(Input 1 0 0 0),
-        Directive::IssueOut {
-            slot: 0,
-            frame: 0,
-            page: 0,
-        },
-        Directive::FinishOut { slot: 0 },
-        job!(Output 1 0 0 0),
-    ];
-    let (leaves, outputs) = in_one_frame(rt.alloc(), &directives)?;
+    let (leaves, outputs) = in_one_frame(rt.alloc(), keeping(rt.alloc())?)?;
     assert_eq!(rt; leaves, Some(false));
     assert_eq!(rt; outputs.as_slice(), [1].as_slice());
     Ok(())
@@ -272,9 +194,7 @@ fn a_frame_that_is_used_again_is_kept(rt: HostRuntime) -> Result<(), Fail> {
 
 #[test]
 fn a_value_goes_over_wire_by_wire(rt: HostRuntime) -> Result<(), Fail> {
-    let sender = [fresh!(0 0), job!(Input 64 0 0 0), job!(Send 64 1 0 0)];
-    let receiver = [fresh!(0 0), job!(Recv 64 0 0 0), job!(Output 64 0 0 0)];
-    let went = over_links(rt.alloc(), &sender, &receiver)?;
+    let went = over_links(rt.alloc(), handing_over(rt.alloc())?)?;
     let empty = Ok(Turn::Blocked(Why::Empty { from: 0 }));
     let full = Ok(Turn::Blocked(Why::Full { to: 1 }));
     let early = words_of(rt.alloc(), went.early.as_slice())?;

@@ -1,13 +1,13 @@
 // The value of the sum of 200 and 100, from its stream and the labels that are dealt.
 ghost use Rattle.std.specs.Prelude.{◌<◌};
 
+use crate::dealt::dealt;
 use crate::garbling::garbled;
 use crate::quiet::QuietSource;
 use crate::sum::run;
 use mage_base::{MemSource, Source};
 use mage_eval::EvalDriver;
 use mage_instr::DriverFault;
-use mage_label::{Label, input_label, offset};
 use sha2::{Digest, Sha256};
 use std::alloc::Global;
 use std::process::Abort;
@@ -18,22 +18,6 @@ const LABELS: [u8; 32] = [
     0xeb, 0x22, 0xc1, 0x0e, 0xe7, 0x50, 0x1b, 0x90, 0x85, 0x6b, 0x88, 0xbb, 0x83, 0x25, 0x0a, 0xf1,
     0xc0, 0x1f, 0x4b, 0x73, 0x85, 0x00, 0xde, 0x8d, 0xe8, 0xe4, 0x37, 0x9d, 0x46, 0x4e, 0x93, 0xed,
 ];
-
-// The active labels of the evaluator's 100.
-fn dealt(alloc: Global) -> Result<Vec<Label>, Fail> {
-    let seed = [0; 32];
-    let mut labels = Vec::new(alloc);
-    for i in 0..8u64 {
-        let zero = input_label(&seed, 0, 8 + i);
-        let is_one = 100u64 >> i & 1 == 1;
-        labels.push(if is_one {
-            zero.xor(offset(&seed))
-        } else {
-            zero
-        })?;
-    }
-    Ok(labels)
-}
 
 // What the evaluator makes of a stream.
 fn evaluated(alloc: Global, stream: &[u8]) -> Result<(Result<(), DriverFault>, Vec<u128>), Fail> {

@@ -55,6 +55,3 @@ fn renamed(alloc: Global, limits: Limits, parts: &[Part]) -> Result<MemProgram, 
         workers,
     })
 }
-
-#[cfg(test)]
-mod tests;

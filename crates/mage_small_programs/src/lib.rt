@@ -4,5 +4,5 @@
 mod making;
 mod programs;
 
-pub use making::{one_worker, two_workers};
+pub use making::{one_worker, one_worker_over, two_workers};
 pub use programs::{adding, both_parties, handing_over, keeping, swapping, swapping_twice};

@@ -35,8 +35,26 @@ pub fn one_worker(
     ensures page { IfOk result (λ plan. plan.limits.page ≡ 64) }
     ensures workers { IfOk result (λ plan. length plan.workers ≡ 1) }
 {
+    one_worker_over(alloc, frames, 1, directives)
+}
+
+/// The same, whose store has so many pages.
+pub fn one_worker_over(
+    alloc: Global,
+    frames: u32,
+    pages: u32,
+    directives: &[Directive],
+) -> Result<MemProgram, Memory>
+    requires frames { (1 ≤ frames) × (frames ≤ 2) }
+    requires pages { pages < 100 }
+    requires count { length directives.now < 100 }
+    requires fields { AreDirectives 1 0 directives.now }
+    ensures fields { IfOk result IsMemProgram }
+    ensures page { IfOk result (λ plan. plan.limits.page ≡ 64) }
+    ensures workers { IfOk result (λ plan. length plan.workers ≡ 1) }
+{
     let mut stores = Items::new(alloc);
-    stores.push(1)?;
+    stores.push(pages)?;
     let mut workers = Items::new(alloc);
     workers.push(Items::from_slice(alloc, directives)?)?;
     Ok(MemProgram {

@@ -187,6 +187,3 @@ fn parts_of(
     }
     Ok(parts)
 }
-
-#[cfg(test)]
-mod tests;

@@ -1,66 +1,14 @@
 // Small programs with one frame, one slot and pages of 64 wires, judged by hand from the rules.
-ghost use Rattle.std.specs.Prelude.{◌≡◌, ◌<◌, length, IfOk};
+ghost use Rattle.std.specs.Prelude.{◌<◌, length};
 ghost use Rattle.mage_directives.specs.Directives.{IsMemProgram};
-ghost use Rattle.mage_instr.specs.Limits.{AreInRange};
 ghost use Rattle.mage_verify.specs.Literals.{AreDirectives};
 
-use super::*;
-use mage_instr::{Job, Op, Spot};
-use std::alloc::AllocError;
+use mage_base::Memory;
+use mage_instr::{Directive, Job, Limits, MemProgram, Op, Spot};
+use mage_small_programs::{one_worker, two_workers};
+use mage_verify::{Part, VerifyFault, verify};
+use std::alloc::Global;
 use std::test::Fail;
-
-fn limits() -> Limits
-    ensures { AreInRange result }
-{
-    Limits {
-        page: 64,
-        frames: 1,
-        buffer: 1,
-        ahead: 0,
-    }
-}
-
-// The program of one worker, whose store has so many pages.
-fn one_worker(alloc: Global, pages: u32, directives: &[Directive]) -> Result<MemProgram, AllocError>
-    requires pages { pages < 100 }
-    requires count { length directives.now < 100 }
-    requires fields { AreDirectives 1 0 directives.now }
-    ensures { IfOk result IsMemProgram }
-{
-    let mut stores = Items::new(alloc);
-    stores.push(pages)?;
-    let mut workers = Items::new(alloc);
-    workers.push(Items::from_slice(alloc, directives)?)?;
-    Ok(MemProgram {
-        limits: limits(),
-        stores,
-        workers,
-    })
-}
-
-// The program of two workers, whose stores have no page.
-fn two_workers(
-    alloc: Global,
-    first: &[Directive],
-    second: &[Directive],
-) -> Result<MemProgram, AllocError>
-    requires count { (length first.now < 100) × (length second.now < 100) }
-    requires first { AreDirectives 2 0 first.now }
-    requires second { AreDirectives 2 1 second.now }
-    ensures { IfOk result IsMemProgram }
-{
-    let mut stores = Items::new(alloc);
-    stores.push(0)?;
-    stores.push(0)?;
-    let mut workers = Items::new(alloc);
-    workers.push(Items::from_slice(alloc, first)?)?;
-    workers.push(Items::from_slice(alloc, second)?)?;
-    Ok(MemProgram {
-        limits: limits(),
-        stores,
-        workers,
-    })
-}
 
 // What is wrong with a program.
 fn fault_of(alloc: Global, plan: MemProgram) -> Option<VerifyFault>
@@ -70,7 +18,7 @@ fn fault_of(alloc: Global, plan: MemProgram) -> Option<VerifyFault>
 }
 
 // What is wrong with a program of one worker, whose store has one page.
-fn own_fault(alloc: Global, directives: &[Directive]) -> Result<Option<VerifyFault>, AllocError>
+fn own_fault(alloc: Global, directives: &[Directive]) -> Result<Option<VerifyFault>, Memory>
     requires count { length directives.now < 100 }
     requires fields { AreDirectives 1 0 directives.now }
 {
@@ -126,7 +74,13 @@ fn a_page_goes_out_and_comes_in(rt: HostRuntime) -> Result<(), Fail> {
     let parts = verify(rt.alloc(), plan)?.parts();
     assert_eq!(rt; parts.len(), 1);
     assert_eq!(rt; parts[0].worker(), 0);
-    assert!(rt; parts[0].limits() == limits());
+    let limits = Limits {
+        page: 64,
+        frames: 1,
+        buffer: 1,
+        ahead: 0,
+    };
+    assert!(rt; parts[0].limits() == limits);
     assert_eq!(rt; parts[0].store_pages(), 1);
     assert_eq!(rt; parts[0].directives(), directives.as_slice());
     assert_eq!(rt; leaves(&parts[0], 1), Some(true));

@@ -1,10 +1,11 @@
 // Programs made by the circuits of their instructions: how long their streams are, and what is decoded from these.
+use crate::dealt::dealt;
 use crate::steps::{Step, run_steps};
 use mage_base::{MemSink, MemSource};
 use mage_eval::EvalDriver;
 use mage_garble::GarbleDriver;
 use mage_instr::{DriverFault, Op};
-use mage_label::{Label, input_label, offset};
+use mage_label::Label;
 use sha2::{Digest, Sha256};
 use std::alloc::Global;
 use std::process::Abort;
@@ -15,22 +16,6 @@ const SUM: [u8; 32] = [
     0x77, 0x4b, 0x7c, 0x5f, 0xde, 0xff, 0xda, 0x73, 0xa9, 0x78, 0xf0, 0xc4, 0x49, 0x38, 0x73, 0xf0,
     0x99, 0x0f, 0x12, 0xa3, 0x51, 0x30, 0xfd, 0xd5, 0x46, 0xbd, 0x2c, 0x79, 0x1a, 0xfd, 0x15, 0x32,
 ];
-
-// The active labels of an input of the evaluator, 100 in 8 bits, behind 8 wires of the garbler.
-fn dealt(alloc: Global) -> Result<Vec<Label>, Fail> {
-    let seed = [0; 32];
-    let mut labels = Vec::new(alloc);
-    for i in 0..8u64 {
-        let zero = input_label(&seed, 0, 8 + i);
-        let is_one = 100u64 >> i & 1 == 1;
-        labels.push(if is_one {
-            zero.xor(offset(&seed))
-        } else {
-            zero
-        })?;
-    }
-    Ok(labels)
-}
 
 // What the garbler made of a program, and its sink, which has room for so many bytes.
 fn garbled(

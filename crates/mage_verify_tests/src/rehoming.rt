@@ -1,47 +1,20 @@
 // Small plans of one worker with pages of 64 wires, whose store pages were given by hand from the rule.
-ghost use Rattle.std.specs.Prelude.{◌<◌, length, IfOk};
-ghost use Rattle.mage_directives.specs.Directives.{IsMemProgram};
-ghost use Rattle.mage_instr.specs.Limits.{AreInRange};
-ghost use Rattle.mage_verify.specs.Literals.{AreDirectives};
-
-use super::*;
-use mage_instr::{Directive, Job, Op, Spot};
+use mage_instr::{Directive, Job, Limits, MemProgram, Op, Spot};
+use mage_rehome::rehome;
+use mage_small_programs::one_worker_over;
 use mage_verify::verify;
-use std::alloc::AllocError;
+use sqlite_items::Items;
 use std::test::Fail;
-
-fn limits() -> Limits
-    ensures { AreInRange result }
-{
-    Limits {
-        page: 64,
-        frames: 2,
-        buffer: 1,
-        ahead: 64,
-    }
-}
-
-// The program of one worker, whose store has so many pages.
-fn one_worker(alloc: Global, pages: u32, directives: &[Directive]) -> Result<MemProgram, AllocError>
-    requires pages { pages < 100 }
-    requires count { length directives.now < 100 }
-    requires fields { AreDirectives 1 0 directives.now }
-    ensures { IfOk result IsMemProgram }
-{
-    let mut stores = Items::new(alloc);
-    stores.push(pages)?;
-    let mut workers = Items::new(alloc);
-    workers.push(Items::from_slice(alloc, directives)?)?;
-    Ok(MemProgram {
-        limits: limits(),
-        stores,
-        workers,
-    })
-}
 
 // Whether a memory program has one worker, with so many store pages and these directives, within the limits.
 fn is_one_worker(plan: &MemProgram, pages: u32, directives: &[Directive]) -> bool {
-    plan.limits == limits()
+    let limits = Limits {
+        page: 64,
+        frames: 2,
+        buffer: 1,
+        ahead: 0,
+    };
+    plan.limits == limits
         && plan.stores.as_slice() == [pages].as_slice()
         && plan.workers.len() == 1
         && has_first(plan.workers.as_slice(), directives)
@@ -124,7 +97,7 @@ fn the_page_that_leaves_takes_the_first_store_page(rt: HostRuntime) -> Result<()
         take!(0),
         OUTPUT,
     ];
-    let plan = one_worker(rt.alloc(), 2, &directives)?;
+    let plan = one_worker_over(rt.alloc(), 2, 2, &directives)?;
     let renamed = rehome(rt.alloc(), verify(rt.alloc(), plan)?)?;
     let expected = [
         fresh!(0 0),
@@ -161,7 +134,7 @@ fn a_store_page_is_used_again(rt: HostRuntime) -> Result<(), Fail> {
         read!(9),
         take!(0),
     ];
-    let plan = one_worker(rt.alloc(), 10, &directives)?;
+    let plan = one_worker_over(rt.alloc(), 2, 10, &directives)?;
     let renamed = rehome(rt.alloc(), verify(rt.alloc(), plan)?)?;
     let expected = [
         issued!(0 0),
@@ -198,7 +171,7 @@ fn a_page_is_written_twice_and_one_never_read(rt: HostRuntime) -> Result<(), Fai
         read!(5),
         take!(1),
     ];
-    let plan = one_worker(rt.alloc(), 9, &directives)?;
+    let plan = one_worker_over(rt.alloc(), 2, 9, &directives)?;
     let renamed = rehome(rt.alloc(), verify(rt.alloc(), plan)?)?;
     let expected = [
         issued!(0 0),
