@@ -14,7 +14,7 @@ mod Drawing
 mod Sticking
 mod Evaluation
 mod Clean
-mod Dealt
+pub mod Dealt
 mod Concluding
 mod Fronting
 mod Roomy
