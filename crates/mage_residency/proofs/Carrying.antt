@@ -1,13 +1,12 @@
 -- The list of the rule carries the program: instruction after instruction.
-use Rattle.std.proofs.Common.{◌≡◌, ◌≢◌, ◌<◌, ◌≤◌, ◌+◌, ◌&&◌, ◌||◌, ◌⊎◌, inl, inr, zero, suc, ℕ, Bool, true, false, cond, List, [], ◌∷◌, ◌++◌, Option, None, Some, IfSome, IsSomeAnd, Contains, length, drop, get_or, set, refl, sym, ◌∙◌, ap, arith, ⊎_elim, subst}
+use Rattle.std.proofs.Common.{◌≡◌, ◌≢◌, ◌<◌, ◌≤◌, ◌+◌, ◌&&◌, ◌||◌, ◌⊎◌, inl, inr, zero, suc, ℕ, Bool, true, false, cond, List, [], ◌∷◌, ◌++◌, Option, None, Some, IsSomeAnd, Contains, length, drop, get_or, set, refl, sym, ◌∙◌, ap, arith, ⊎_elim, subst}
 use Rattle.std.specs.Prelude.{slice_get, nat_eq, nat_le}
 use Rattle.std.proofs.lemmas.Bool.{cases_lt, cases_eq, or_cases, or_left, or_right, and_from, eq-eqb, ne_eqb, lt-ltb, le-leb, false≢true}
 use Rattle.std.proofs.lemmas.Cmp.{nat_eq_equiv}
-use Rattle.std.proofs.lemmas.List.{at_drop_more, at_drop_all, length-set, length-replicate}
+use Rattle.std.proofs.lemmas.List.{at_drop_all, length-set, length-replicate}
 use Rattle.std.proofs.lemmas.List.Elements.{Contains-append_left, Contains-append_right, Contains-append_cases}
 use Rattle.std.proofs.lemmas.List.Folds.{list_any-append}
 use Rattle.std.proofs.lemmas.Map.Views.{list_any-from_Contains, Contains-from_any, exact_unsigned_eq}
-use Rattle.std.proofs.lemmas.Option.{slice_get-get_or, slice_get_past}
 use Rattle.mage_instr.specs.declared.instr.TheConstants.{NEVER}
 use Rattle.mage_instr.specs.declared.instr.Instr.{Instr}
 use Rattle.mage_instr.specs.declared.instr.Place.{Place}
@@ -15,7 +14,7 @@ use Rattle.mage_instr.specs.declared.instr.Step.{Step}
 use Rattle.mage_instr.specs.declared.replaced.Replaced.TheVariants as entry
 use Rattle.mage_instr.specs.Opcodes.{arity_of, has_result, width_of_result, width_of_arg}
 use Rattle.mage_instr.specs.Sound.{arg_of, IsSound}
-use Rattle.mage_instr.specs.Trace.{pages_of, IsStep}
+use Rattle.mage_instr.specs.Trace.{pages_of}
 use Rattle.mage_next.specs.Next.{first_use, has_page}
 use Rattle.mage_place.specs.Live.{args_of, values_touched_by, IsLive}
 use Rattle.mage_place.specs.Places.{place_of, ArePlaces}
@@ -45,6 +44,7 @@ use Rattle.mage_residency.proofs.Dirty.{is_dirty, is_dirty-written}
 use Rattle.mage_residency.proofs.Doing.{put_nothing, goes_on}
 use Rattle.mage_residency.proofs.Frames.{frame_of-at}
 use Rattle.mage_residency.proofs.Kept.{HasLive, Known, Keeps}
+use Rattle.mage_residency.proofs.Turning.{no_step, IsTurn, turn_at, each_step, rule_turns}
 
 -- what some pages have, and others
 both_have : (q : ℕ) (seen pages : List ℕ) → (is_in q seen || is_in q pages) ≡ true → is_in q (seen ++ pages) ≡ true
@@ -286,22 +286,6 @@ module _ (frames page : ℕ) (instrs : List Instr) (places : List Place) (sound 
 
   -- all instructions from t on
   module _ (trace : List Step) (steps_are : AreSteps instrs places trace) (none : tight_of frames 0 trace ≡ None) where
-    each_step : (t : ℕ) → IfSome (slice_get trace t) IsStep
-    each_step t = ⊎_elim inside past (cases_lt t (length trace)) where
-      no_step : Step
-      no_step = record { pages = []; count = 0 }
-
-      past : length trace ≤ t → IfSome (slice_get trace t) IsStep
-      past l = rw (slice_get_past trace t l) tt
-
-      inside : t < length trace → IfSome (slice_get trace t) IsStep
-      inside l =
-          let step = get_or trace t (record { pages = []; count = 0 }) in
-          let here : slice_get trace t ≡ Some step = slice_get-get_or trace t (record { pages = []; count = 0 }) l in
-          let i : slice_get instrs t ≡ Some (get_or instrs t no_instr) = slice_get-get_or instrs t no_instr (let c = steps_are.count in omega (arith, c, l)) in
-          let its : IsStepOf places t (get_or instrs t no_instr) step = rw (i, here) at (steps_are.each t) in
-          rw here its.ok
-
     walks : (n t : ℕ) (seen : List ℕ) (held : List Held) (s : State) → t + n ≡ length instrs → Known frames instrs places t seen → Keeps frames instrs places t seen held (drop t trace) s
         → IsSomeAnd (all_done instrs page s (rule_from frames places t seen held (drop t instrs) (drop t trace))) (λ end. end.next ≡ length instrs)
     walks zero t seen held s all known k =
@@ -310,20 +294,14 @@ module _ (frames page : ℕ) (instrs : List Instr) (places : List Place) (sound 
         rw ended next
     walks (suc n) t seen held s all known k =
         let in_instrs : t < length instrs = omega (arith, all) in
-        let same = steps_are.count in
-        let in_trace : t < length trace = omega (arith, in_instrs, same) in
-        let no_step : Step = record { pages = []; count = 0 } in
         let i = get_or instrs t no_instr in
         let step = get_or trace t no_step in
         let steps = drop (t + 1) trace in
-        let is : slice_get instrs t ≡ Some i = slice_get-get_or instrs t no_instr in_instrs in
-        let here : slice_get trace t ≡ Some step = slice_get-get_or trace t no_step in_trace in
-        let its : IsStepOf places t i step = rw (is, here) at (steps_are.each t) in
+        let here : IsTurn instrs places trace t i step = turn_at instrs places trace steps_are t in_instrs in
         let few_instrs = sound.count in
         let early : t < NEVER = omega (arith, in_instrs, few_instrs) in
-        let few : length (pages_of step) ≤ frames = AllFit-at frames trace t no_step (AllFit-from_none frames 0 trace each_step none) in_trace in
-        let front : drop t trace ≡ step ∷ steps = at_drop_more (λ (rest : List Step). rest) trace t no_step in_trace in
-        let kept : Keeps frames instrs places t seen held (step ∷ steps) s = subst (λ rest. Keeps frames instrs places t seen held rest s) front k in
+        let few : length (pages_of step) ≤ frames = AllFit-at frames trace t no_step (AllFit-from_none frames 0 trace (each_step instrs places trace steps_are) none) here.in_trace in
+        let kept : Keeps frames instrs places t seen held (step ∷ steps) s = subst (λ rest. Keeps frames instrs places t seen held rest s) here.front k in
         let pages = pages_of step in
         let moved = all_brought_in frames (first_use steps (t + 1)) seen pages pages held in
         let long = length-resident held in
@@ -331,11 +309,10 @@ module _ (frames page : ℕ) (instrs : List Instr) (places : List Place) (sound 
         let came = came_all frames (first_use steps (t + 1)) seen pages (resident held) few pages held 0 (λ q m. m) (starts frames pages (resident held) (λ x. is_in x seen) (first_use steps (t + 1)) k.distinct (omega (arith, long, fits_now))) in
         let come = all_come frames page instrs places t seen step steps sound early known few pages held s (λ q m. m) kept in
         let after = cond (has_result i.op) (written (page_of t) moved.held) moved.held in
-        let one = done t i step steps seen moved.held come.0 is its early known came.has come.2 in
-        let rest = walks n (t + 1) (seen ++ pages) after one.0 (omega (arith, all)) (known_more t i step steps seen moved.held come.0 is its early known came.has come.2) one.2 in
+        let one = done t i step steps seen moved.held come.0 here.is here.its early known came.has come.2 in
+        let rest = walks n (t + 1) (seen ++ pages) after one.0 (omega (arith, all)) (known_more t i step steps seen moved.held come.0 here.is here.its early known came.has come.2) one.2 in
         let turn : rule_from frames places t seen held (drop t instrs) (drop t trace) ≡ moved.entries ++ entry.Do (job_in moved.held places t i) ∷ rule_from frames places (t + 1) (seen ++ pages) after (drop (t + 1) instrs) steps =
-        at_drop_more (λ xs. rule_from frames places t seen held xs (drop t trace)) instrs t no_instr in_instrs
-        ∙ ap (λ ys. rule_from frames places t seen held (i ∷ drop (t + 1) instrs) ys) front in
+        rule_turns instrs places trace steps_are frames t seen held in_instrs in
         let did : all_done instrs page s (rule_from frames places t seen held (drop t instrs) (drop t trace)) ≡ all_done instrs page one.0 (rule_from frames places (t + 1) (seen ++ pages) after (drop (t + 1) instrs) steps) =
         ap (all_done instrs page s) turn
         ∙ goes_on instrs page moved.entries (entry.Do (job_in moved.held places t i) ∷ rule_from frames places (t + 1) (seen ++ pages) after (drop (t + 1) instrs) steps) s come.0 come.1

@@ -5,6 +5,7 @@ pub mod Frames
 pub mod Doing
 pub mod Coming
 pub mod Kept
+pub mod Turning
 pub mod Carrying
 pub mod Cutting
 pub mod Beside

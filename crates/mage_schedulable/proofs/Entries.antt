@@ -1,10 +1,10 @@
 -- Each entry of the rule's list is one that the schedule takes.
-use Rattle.std.proofs.Common.{◌≡◌, ◌≢◌, ◌<◌, ◌≤◌, ◌+◌, ◌-◌, ◌&&◌, ◌||◌, ◌⊎◌, inl, inr, zero, suc, ℕ, Bool, true, false, not, cond, List, [], ◌∷◌, ◌++◌, Option, None, Some, IfSome, Contains, length, drop, get_or, set, nat_eq, nat_lt, refl, sym, ◌∙◌, ap, arith, ⊎_elim, subst, append_assoc}
+use Rattle.std.proofs.Common.{◌≡◌, ◌≢◌, ◌<◌, ◌≤◌, ◌+◌, ◌-◌, ◌&&◌, ◌||◌, ◌⊎◌, inl, inr, zero, suc, ℕ, Bool, true, false, not, cond, List, [], ◌∷◌, ◌++◌, Option, None, Some, Contains, length, drop, get_or, set, nat_eq, nat_lt, refl, sym, ◌∙◌, ap, arith, ⊎_elim, subst, append_assoc}
 use Rattle.std.specs.Prelude.{slice_get}
 use Rattle.std.specs.List.{filter}
-use Rattle.std.proofs.lemmas.Bool.{cases_lt, cases_eq, or_cases, or_left, or_right, and_right, eq-eqb, ne_eqb, eqb-true, ltb-true, ltb-false, false≢true, false_from_ne_true}
+use Rattle.std.proofs.lemmas.Bool.{cases_eq, or_cases, or_left, or_right, and_right, eq-eqb, ne_eqb, eqb-true, ltb-true, ltb-false, false≢true, false_from_ne_true}
 use Rattle.std.proofs.lemmas.Cmp.{nat_eq_equiv}
-use Rattle.std.proofs.lemmas.List.{at_drop_more, at_drop_all, length-drop, length-set, length_push}
+use Rattle.std.proofs.lemmas.List.{at_drop_all, length-drop, length-set, length_push}
 use Rattle.std.proofs.lemmas.List.Elements.{Contains-append_right, Contains-append_cases}
 use Rattle.std.proofs.lemmas.List.Folds.{list_any-append}
 use Rattle.std.proofs.lemmas.Map.Views.{list_any-from_Contains, Contains-from_any, exact_unsigned_eq}
@@ -17,7 +17,7 @@ use Rattle.mage_instr.specs.declared.replaced.Replaced.{Replaced}
 use Rattle.mage_instr.specs.declared.replaced.Replaced.TheVariants as entry
 use Rattle.mage_instr.specs.Opcodes.{has_result}
 use Rattle.mage_instr.specs.Sound.{IsSound}
-use Rattle.mage_instr.specs.Trace.{pages_of, IsStep}
+use Rattle.mage_instr.specs.Trace.{pages_of}
 use Rattle.mage_next.specs.Next.{first_use, has_page}
 use Rattle.mage_place.specs.Live.{args_of, values_touched_by}
 use Rattle.mage_place.specs.Places.{place_of}
@@ -36,6 +36,7 @@ use Rattle.mage_sched.specs.Reads.{page_in, is_page}
 use Rattle.mage_sched.specs.Rule.{came_in, is_saved, is_loaded, in_memory, takes, IsEntry, AreEntries}
 use Rattle.mage_residency.proofs.Coming.{clean_page, still, turned}
 use Rattle.mage_residency.proofs.Dirty.{is_dirty, is_dirty-at, is_dirty-missing, is_dirty-push, is_dirty-set, is_dirty-written}
+use Rattle.mage_residency.proofs.Turning.{no_step, IsTurn, turn_at, each_step, rule_turns}
 use Rattle.mage_residency.specs.Carried.{HaveArguments}
 use Rattle.mage_schedulable.specs.Replacing.{RuleListsAreReplaced}
 use Rattle.mage_schedulable.specs.Standing.{AllFindPlaces, RuleListsFindPlaces}
@@ -396,19 +397,6 @@ module _ (frames : ℕ) (instrs : List Instr) (places : List Place) (sound : IsS
           k.saved q (had_before q (λ r p. was.0 (sym p)) m) was.1 (used_before q later)
 
   module _ (trace : List Step) (steps_are : AreSteps instrs places trace) (none : tight_of frames 0 trace ≡ None) where
-    each_step : (t : ℕ) → IfSome (slice_get trace t) IsStep
-    each_step t = ⊎_elim inside past (cases_lt t (length trace)) where
-      past : length trace ≤ t → IfSome (slice_get trace t) IsStep
-      past l = rw (slice_get_past trace t l) tt
-
-      inside : t < length trace → IfSome (slice_get trace t) IsStep
-      inside l =
-          let step = get_or trace t (record { pages = []; count = 0 }) in
-          let here : slice_get trace t ≡ Some step = slice_get-get_or trace t (record { pages = []; count = 0 }) l in
-          let i : slice_get instrs t ≡ Some (get_or instrs t no_instr) = slice_get-get_or instrs t no_instr (let c = steps_are.count in omega (arith, c, l)) in
-          let its : IsStepOf places t (get_or instrs t no_instr) step = rw (i, here) at (steps_are.each t) in
-          rw here its.ok
-
     walks : (n t : ℕ) (seen : List ℕ) (held : List Held) (before : List Replaced) → t + n ≡ length instrs → Known t seen → AllFit frames (drop t trace) → Ready frames places seen held
         → ((S : List ℕ) → Follows frames t seen S held (drop t trace) before) → Right frames instrs places t before (rule_from frames places t seen held (drop t instrs) (drop t trace))
     walks zero t seen held before all known fit ready k =
@@ -416,37 +404,30 @@ module _ (frames : ℕ) (instrs : List Instr) (places : List Place) (sound : IsS
         rw ended (tt, λ have. tt)
     walks (suc n) t seen held before all known fit ready k =
         let in_instrs : t < length instrs = omega (arith, all) in
-        let same = steps_are.count in
-        let in_trace : t < length trace = omega (arith, in_instrs, same) in
-        let no_step : Step = record { pages = []; count = 0 } in
         let i = get_or instrs t no_instr in
         let step = get_or trace t no_step in
         let steps = drop (t + 1) trace in
-        let is : slice_get instrs t ≡ Some i = slice_get-get_or instrs t no_instr in_instrs in
-        let here : slice_get trace t ≡ Some step = slice_get-get_or trace t no_step in_trace in
-        let its : IsStepOf places t i step = rw (is, here) at (steps_are.each t) in
+        let here : IsTurn instrs places trace t i step = turn_at instrs places trace steps_are t in_instrs in
         let few_instrs = sound.count in
         let early : t < NEVER = omega (arith, in_instrs, few_instrs) in
-        let front : drop t trace ≡ step ∷ steps = at_drop_more (λ (rest : List Step). rest) trace t no_step in_trace in
-        let fit_now : AllFit frames (step ∷ steps) = subst (AllFit frames) front fit in
+        let fit_now : AllFit frames (step ∷ steps) = subst (AllFit frames) here.front fit in
         let pages = pages_of step in
-        let now : Follows frames t seen pages held (step ∷ steps) before = subst (λ rest. Follows frames t seen pages held rest before) front (k pages) in
+        let now : Follows frames t seen pages held (step ∷ steps) before = subst (λ rest. Follows frames t seen pages held rest before) here.front (k pages) in
         let moved = all_brought_in frames (first_use steps (t + 1)) seen pages pages held in
         let c = came frames places t seen held step steps ready fit_now.1 in
         let after : List Held = cond (has_result i.op) (written (page_of t) moved.held) moved.held in
         let ready_then = after_ready frames places (first_use steps (t + 1)) seen pages held moved (has_result i.op) (page_of t) ready c in
-        let more = known_more t i step steps seen is its early known in
+        let more = known_more t i step steps seen here.is here.its early known in
         let rest = rule_from frames places (t + 1) (seen ++ pages) after (drop (t + 1) instrs) steps in
         let turn : rule_from frames places t seen held (drop t instrs) (drop t trace) ≡ moved.entries ++ entry.Do (job_in moved.held places t i) ∷ rest =
-        at_drop_more (λ xs. rule_from frames places t seen held xs (drop t trace)) instrs t no_instr in_instrs
-        ∙ ap (λ ys. rule_from frames places t seen held (i ∷ drop (t + 1) instrs) ys) front in
+        rule_turns instrs places trace steps_are frames t seen held in_instrs in
         let as_many : length (drop (t + 1) instrs) ≡ length steps = lengths (t + 1) in
         let done : Right frames instrs places t before (moved.entries ++ entry.Do (job_in moved.held places t i) ∷ rest) =
         brings_all frames instrs places t seen step steps early fit_now.1 pages held before (entry.Do (job_in moved.held places t i) ∷ rest) (λ q m. m) now
         (λ b h.
         let right = walks n (t + 1) (seen ++ pages) after (entry.Do (job_in moved.held places t i) ∷ b) (omega (arith, all)) more fit_now.2 ready_then
-        (λ S. goes_on t i step steps seen is its early known S moved.held b c.has h) in
-        ((tt, right.0), λ have. (finds_places instrs places t i step moved.held b is its have c.has h.frame, right.1 have)))
+        (λ S. goes_on t i step steps seen here.is here.its early known S moved.held b c.has h) in
+        ((tt, right.0), λ have. (finds_places instrs places t i step moved.held b here.is here.its have c.has h.frame, right.1 have)))
         (λ q had absent used. loads_later frames places steps (drop (t + 1) instrs) (t + 1) (seen ++ pages) after q fit_now.2 ready_then as_many
         (list_any-append (nat_eq q) seen pages ∙ or_left (is_in q seen) (is_in q pages) had)
         (ap (is_in q) (resident-after (has_result i.op) (page_of t) moved.held) ∙ absent) used) in
@@ -458,7 +439,7 @@ module _ (frames : ℕ) (instrs : List Instr) (places : List Place) (sound : IsS
 rule_lists_are_right : (frames : ℕ) (instrs : List Instr) (places : List Place) (trace : List Step) → IsSound instrs → AreSteps instrs places trace → tight_of frames 0 trace ≡ None
     → Right frames instrs places 0 [] (rule_of frames instrs places trace)
 rule_lists_are_right frames instrs places trace sound steps_are none =
-    walks frames instrs places sound trace steps_are none (length instrs) 0 [] [] [] (omega arith) (λ v less. absurd (omega (arith, less))) (AllFit-from_none frames 0 trace (each_step frames instrs places sound trace steps_are none) none) (at_first frames places) (λ S. record {
+    walks frames instrs places sound trace steps_are none (length instrs) 0 [] [] [] (omega arith) (λ v less. absurd (omega (arith, less))) (AllFit-from_none frames 0 trace (each_step instrs places trace steps_are) none) (at_first frames places) (λ S. record {
       distinct = tt;
       fits = omega arith;
       frame = λ f. refl;
