@@ -1,19 +1,18 @@
 -- Wires that are packed into frames one after another, and read from them.
-use Rattle.std.proofs.Common.{◌≡◌, ◌<◌, ◌≤◌, ◌+◌, ◌*◌, ℕ, List, [], ◌∷◌, ◌++◌, length, get_or, set, take, drop, map, refl, sym, ap, ◌∙◌, arith}
+use Rattle.std.proofs.Common.{◌≡◌, ◌<◌, ◌≤◌, ◌+◌, ◌*◌, ℕ, List, [], ◌∷◌, ◌++◌, length, get_or, set, take, map, sym, ap, ◌∙◌, arith}
 use Rattle.std.specs.Prelude.{Vec}
 use Rattle.std.specs.Global.{Global}
 use Rattle.std.specs.Vec.{with_items}
 use Rattle.std.specs.List.{flat_map, range_with_len}
 use Rattle.std.proofs.lemmas.List.{append-nil, length-append, take_all, take_more, take_more_set}
 use Rattle.std.proofs.lemmas.List.Concat.{flat_map-append}
-use Rattle.std.proofs.lemmas.List.Edits.{paste_none, paste-paste}
 use Rattle.std.proofs.lemmas.List.FromFn.{map-range_with_len_more}
 use Rattle.std.proofs.lemmas.Nat.{mul-le}
-use lib.Seq.{paste}
 use Rattle.mage_instr.specs.declared.replaced.Spot.{Spot}
 use Rattle.mage_network.specs.Network.{put}
 use Rattle.mage_driver.specs.Rules.{Rules}
 use Rattle.mage_steps.specs.Frames.{with_piece, spot_of_wire, wire_at, wires_at, with_wires, sent_form}
+use Rattle.mage_steps.proofs.Written.{piece_more}
 use Rattle.mage_bank.specs.Bank.{contents, bank_of, wire_in}
 use Rattle.mage_bank.proofs.Banking.{bank_here, bank_written}
 
@@ -42,23 +41,6 @@ pub read_end : {W : Type 0} (f : ℕ → W) (into : List W) (i n : ℕ) → take
 read_end f into i n so_far long past inside =
     let same : i ≡ n = omega arith in
     sym (take_all i into (omega arith)) ∙ so_far ∙ ap (λ k. map f (range_with_len 0 k)) same
-
--- a write as std has it
-as_paste : (bytes : List ℕ) (place : ℕ) (piece : List ℕ) → with_piece bytes place piece ≡ paste bytes place piece (length piece)
-as_paste bytes place piece = ap (λ l. take place bytes ++ l ++ drop (place + length piece) bytes) (sym (take_all (length piece) piece (omega arith)))
-
-pub piece_none : (bytes : List ℕ) (place : ℕ) → bytes ≡ with_piece bytes place []
-piece_none bytes place = paste_none bytes place [] ∙ sym (as_paste bytes place [])
-
--- two writes in a row are one
-pub piece_more : (bytes : List ℕ) (place : ℕ) (x y : List ℕ) → place ≤ length bytes →
-    with_piece (with_piece bytes place x) (place + length x) y ≡ with_piece bytes place (x ++ y)
-piece_more bytes place x y fits =
-    ap (λ l. with_piece l (place + length x) y) (as_paste bytes place x)
-    ∙ as_paste (paste bytes place x (length x)) (place + length x) y
-    ∙ paste-paste bytes place x y (length x) (length y) refl refl fits
-    ∙ ap (λ n. paste bytes place (x ++ y) n) (sym (length-append x y))
-    ∙ sym (as_paste bytes place (x ++ y))
 
 module _ {W : Type 0} (rules : Rules W) where
   -- one more wire is packed

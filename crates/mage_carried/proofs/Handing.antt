@@ -1,10 +1,10 @@
 -- A Send and its Recv: one worker hands its wires to another, which has them then.
-use Rattle.std.proofs.Common.{◌≡◌, ◌≤◌, ◌<◌, ◌+◌, ◌-◌, ◌*◌, ℕ, zero, suc, Bool, true, false, cond, List, [], ◌∷◌, ◌++◌, length, take, drop, nat_eq, refl, sym, ap, ◌∙◌, subst, arith, append-nil, append_assoc, replicate, ◌&&◌}
+use Rattle.std.proofs.Common.{◌≡◌, ◌≤◌, ◌<◌, ◌+◌, ◌-◌, ◌*◌, ℕ, suc, Bool, true, false, cond, List, [], ◌∷◌, ◌++◌, length, take, nat_eq, refl, sym, ap, ◌∙◌, subst, arith, append_assoc, replicate, ◌&&◌}
 use Rattle.std.proofs.lemmas.Bool.{eqb-true, eq-eqb}
 use Rattle.std.proofs.lemmas.Bool.Decides.{nat_tests}
-use Rattle.std.proofs.lemmas.List.{length-append, length-take-le}
+use Rattle.std.proofs.lemmas.List.{length-append}
 use Rattle.std.proofs.lemmas.List.Concat.{flat_map-append}
-use Rattle.std.proofs.Math.Seq.{take-append_seam, drop-append-add}
+use Rattle.std.proofs.Math.Seq.{take-append_seam}
 use Rattle.std.specs.List.{flat_map}
 use mathlib.Core.Path.{fun_ext}
 use Rattle.mage_instr.specs.declared.directive.MemProgram.{MemProgram}
@@ -17,51 +17,10 @@ use Rattle.mage_driver.specs.Calls.{Call}
 use Rattle.mage_steps.specs.Frames.{link_bytes, with_piece, spot_of_wire, with_wires, sent_form, received_form}
 use Rattle.mage_steps.specs.Engines.{Engine, advanced, past_wire}
 use Rattle.mage_steps.specs.Core.{Core, core_act}
+use Rattle.mage_steps.proofs.Written.{piece_none, piece_more}
 use Rattle.mage_carried.specs.Wires.{AreWires}
 use Rattle.mage_carried.proofs.Reading.{packed_long}
 use Rattle.mage_carried.proofs.Joining.{Leads}
-
-drop_none : {X : Type 0} (n : ℕ) → drop {A = X} n [] ≡ []
-drop_none zero = refl
-drop_none (suc n) = refl
-
--- two writes in a row are one
-pub piece_more : (bytes : List ℕ) (place : ℕ) (x y : List ℕ) → place + length x ≤ length bytes →
-    with_piece (with_piece bytes place x) (place + length x) y ≡ with_piece bytes place (x ++ y)
-piece_more bytes place x y fits =
-    ap (λ l. l ++ y ++ drop (place + length x + length y) (with_piece bytes place x)) front
-    ∙ ap (λ l. take place bytes ++ x ++ y ++ l) back
-    ∙ ap (λ l. l ++ drop (place + length (x ++ y)) bytes) (append_assoc (take place bytes) x y)
-  where
-    long : length (take place bytes ++ x) ≡ place + length x
-    long = length-append (take place bytes) x ∙ ap (λ n. n + length x) (length-take-le place bytes (omega arith))
-
-    front : take (place + length x) (with_piece bytes place x) ≡ take place bytes ++ x
-    front = ap (λ n. take n (take place bytes ++ x ++ drop (place + length x) bytes)) (sym long)
-        ∙ take-append_seam (take place bytes ++ x) (drop (place + length x) bytes)
-
-    back : drop (place + length x + length y) (with_piece bytes place x) ≡ drop (place + length (x ++ y)) bytes
-    back = ap (λ n. drop (n + length y) (take place bytes ++ x ++ drop (place + length x) bytes)) (sym long)
-        ∙ drop-append-add (take place bytes ++ x) (drop (place + length x) bytes) (length y)
-        ∙ dropped (length y) (place + length x) bytes
-        ∙ ap (λ n. drop n bytes) (let e : place + length x + length y ≡ place + (length x + length y) = omega arith in
-        e ∙ ap (λ n. place + n) (sym (length-append x y)))
-      where
-        dropped : (n m : ℕ) (l : List ℕ) → drop n (drop m l) ≡ drop (m + n) l
-        dropped n zero l = ap (λ k. drop k l) (let e : n ≡ 0 + n = omega arith in e)
-        dropped n (suc m) [] = drop_none n ∙ sym (drop_none (suc m + n))
-        dropped n (suc m) (z ∷ l) = dropped n m l ∙ ap (λ k. drop k (z ∷ l)) (let e : suc (m + n) ≡ suc m + n = omega arith in e)
-
-pub piece_none : (bytes : List ℕ) (place : ℕ) → with_piece bytes place [] ≡ bytes
-piece_none bytes place =
-    ap (λ l. l ++ drop (place + 0) bytes) (append-nil (take place bytes))
-    ∙ ap (λ n. take place bytes ++ drop n bytes) (let e : place + 0 ≡ place = omega arith in e)
-    ∙ whole place bytes
-  where
-    whole : (n : ℕ) (l : List ℕ) → take n l ++ drop n l ≡ l
-    whole zero l = refl
-    whole (suc n) [] = refl
-    whole (suc n) (z ∷ l) = ap (λ k. z ∷ k) (whole n l)
 
 module _ {W : Type 0} (rules : Rules W) (lawful : AreLawful rules) where
   -- no wires change nothing

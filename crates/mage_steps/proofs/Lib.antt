@@ -1,3 +1,4 @@
+pub mod Written
 pub mod Deeds
 pub mod Settled
 pub mod Flights

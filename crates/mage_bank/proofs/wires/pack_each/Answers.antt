@@ -1,12 +1,13 @@
-use Rattle.std.proofs.Common.{◌≡◌, ◌≤◌, ◌+◌, ◌*◌, length, ap, arith}
+use Rattle.std.proofs.Common.{◌≡◌, ◌≤◌, ◌+◌, ◌*◌, length, sym, ap, arith}
 use Rattle.std.proofs.lemmas.Nat.{mul-le}
-use Rattle.mage_bank.proofs.Packing.{piece_none, long_turn, pack_turn, pack_end}
+use Rattle.mage_steps.proofs.Written.{piece_none}
+use Rattle.mage_bank.proofs.Packing.{long_turn, pack_turn, pack_end}
 use Rattle.mage_bank.proofs.wires.pack_each.Goals as goal
 
 pub loop-i-init : goal.loop-i-init
 loop-i-init g c = record {
   long = omega arith;
-  bytes = piece_none c.args.frame.now (c.args.place * g.D.Driver.rules.wire_bytes);
+  bytes = sym (piece_none c.args.frame.now (c.args.place * g.D.Driver.rules.wire_bytes));
 }
 
 pub loop-i-preserved : goal.loop-i-preserved
