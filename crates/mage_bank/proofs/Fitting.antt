@@ -1,14 +1,22 @@
 -- Frames of so many bytes each, and the values that fit them.
-use Rattle.std.proofs.Common.{◌≡◌, ◌≤◌, ◌<◌, ◌+◌, ◌*◌, ℕ, zero, suc, List, [], ◌∷◌, length, get_or, replicate, sym, ap, ◌∙◌, subst, arith}
+use Rattle.std.proofs.Common.{◌≡◌, ◌≤◌, ◌<◌, ◌+◌, ◌*◌, ℕ, zero, suc, List, [], ◌∷◌, length, get_or, replicate, refl, sym, ap, ap₂, ◌∙◌, subst, arith}
 use Rattle.std.proofs.lemmas.List.{length-map, length-replicate}
 use Rattle.std.proofs.lemmas.Nat.{mul-le}
 use Rattle.mage_instr.specs.declared.replaced.Job.{Job}
 use Rattle.mage_instr.specs.declared.replaced.Spot.{Spot}
-use Rattle.mage_bank.specs.Bank.{bank_of, AreOf, Lies}
+use Rattle.mage_bank.specs.Bank.{bank_of, lengths_of, AreOf, Lies}
 use Rattle.mage_bank.specs.Jobs.{Fits, JobFits, JobLies}
 
 pub count_is : (count bytes : ℕ) (frames : List (List ℕ)) → AreOf count bytes frames → length frames ≡ count
 count_is count bytes frames are = sym (length-map frames (λ (f : List ℕ). length f)) ∙ ap (λ l. length l) are ∙ length-replicate count bytes
+
+-- frames of zeros are all as long
+pub zeros_are_of : (count bytes : ℕ) (frames : List (List ℕ)) → frames ≡ replicate count (replicate bytes 0) → AreOf count bytes frames
+zeros_are_of count bytes frames zeros = ap lengths_of zeros ∙ go count
+  where
+    go : (n : ℕ) → lengths_of (replicate n (replicate bytes 0)) ≡ replicate n bytes
+    go zero = refl
+    go (suc n) = ap₂ (λ x xs. x ∷ xs) (length-replicate bytes 0) (go n)
 
 each_long : (other : List ℕ) (count bytes i : ℕ) (frames : List (List ℕ)) → AreOf count bytes frames → i < count →
     length (get_or frames i other) ≡ bytes

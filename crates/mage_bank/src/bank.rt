@@ -3,7 +3,7 @@ ghost use Rattle.std.specs.Prelude.{◌≡◌, ◌<◌, length, replicate, IfOk}
 ghost use Rattle.mage_network.specs.Network.{put};
 ghost use Rattle.mage_bank.specs.Bank.{contents, bank_of, lengths_of, AreOf};
 
-use mage_base::Memory;
+use mage_base::{Memory, zero_pages};
 use std::alloc::Global;
 
 /// So many frames of so many bytes each, all of them zero. No other call here takes memory; `Memory` where there is none.
@@ -12,13 +12,7 @@ pub fn frames(alloc: Global, count: u32, bytes: u32) -> Result<Vec<Vec<u8>>, Mem
         contents frames.items ≡ replicate count (replicate bytes 0)) }
     ensures lengths { IfOk result (λ frames. AreOf count bytes (contents frames.items)) }
 {
-    let mut frames = Vec::with_capacity(alloc, count as usize)?;
-    for _ in 0..count {
-        let mut frame = Vec::new(alloc);
-        frame.resize(bytes as usize, 0)?;
-        frames.push(frame)?;
-    }
-    Ok(frames)
+    zero_pages(alloc, count, bytes as usize)
 }
 
 /// Fills a frame with zero bytes.
