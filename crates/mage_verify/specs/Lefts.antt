@@ -3,14 +3,15 @@ use Rattle.std.specs.Prelude.{◌≡◌, ◌<◌, ◌&&◌, ℕ, Bool, true, fal
 use Rattle.std.specs.List.{slice_index_or}
 use Rattle.mage_instr.specs.declared.directive.Directive.{Directive}
 use Rattle.mage_instr.specs.declared.replaced.Spot.{Spot}
+use Rattle.mage_instr.specs.Limits.{most_frames}
 use Rattle.mage_verify.specs.Leaving.{is_left}
 
 abbrev pub entry_of : List Bool → (frame : ℕ) → Bool
 entry_of table frame = slice_index_or table frame true
 
 pub record IsTable (table : List Bool) (directives : List Directive) : Type 0 where
-  pub count : length table ≡ 65536
-  pub each : (frame : ℕ) → frame < 65536 → entry_of table frame ≡ is_left frame directives
+  pub count : length table ≡ most_frames
+  pub each : (frame : ℕ) → frame < most_frames → entry_of table frame ≡ is_left frame directives
 
 -- the frame of a spot isn't left, where the spot is there; the others are as before
 pub record IsUsed (old new : List Bool) (there : Bool) (spot : Spot) : Type 0 where

@@ -2,6 +2,7 @@
 ghost use Rattle.std.specs.Prelude.{◌≡◌, ◌∷◌, [], ℕ, List, true, length, IfOk};
 ghost use Rattle.mage_instr.specs.declared.directive.Directive.{Directive};
 ghost use Rattle.mage_instr.specs.declared.directive.Directive.TheVariants as entry;
+ghost use Rattle.mage_instr.specs.Limits.{most_frames};
 ghost use Rattle.mage_verify.specs.Leaving.{leaves_first, leaves_of};
 ghost use Rattle.mage_verify.specs.Lefts.{entry_of, IsTable, IsUsed, IsSet};
 
@@ -46,7 +47,7 @@ fn find_leaves(directives: &[Directive], left: &mut [bool], leaves: &mut [bool])
 
 // Whether a directive is the issue of a write that leaves its frame, by the table of what comes behind it.
 fn leaves_first(left: &[bool], directive: Directive) -> bool
-    requires { length left.now ≡ 65536 }
+    requires { length left.now ≡ most_frames }
     ensures { (rest : List Directive) → IsTable left.now rest → result ≡ leaves_first (directive ∷ rest) }
 {
     match directive {
@@ -57,8 +58,8 @@ fn leaves_first(left: &[bool], directive: Directive) -> bool
 
 // The table in front of a directive, from the one behind it.
 fn step_back(left: &mut [bool], directive: Directive)
-    requires { length left.old ≡ 65536 }
-    ensures count { length left.new ≡ 65536 }
+    requires { length left.old ≡ most_frames }
+    ensures count { length left.new ≡ most_frames }
     ensures table { (rest : List Directive) → IsTable left.old rest → IsTable left.new (directive ∷ rest) }
 {
     match directive {
@@ -72,8 +73,8 @@ fn step_back(left: &mut [bool], directive: Directive)
 
 // An instruction uses the frames of its values.
 fn use_values(left: &mut [bool], job: Job)
-    requires { length left.old ≡ 65536 }
-    ensures count { length left.new ≡ 65536 }
+    requires { length left.old ≡ most_frames }
+    ensures count { length left.new ≡ most_frames }
     ensures table { (rest : List Directive) → IsTable left.old rest → IsTable left.new (entry.Do job ∷ rest) }
 {
     let arity = arity(job.op);
@@ -85,7 +86,7 @@ fn use_values(left: &mut [bool], job: Job)
 
 // The frame of a spot is used, where the spot is there.
 fn use_spot(left: &mut [bool], there: bool, spot: Spot)
-    requires { length left.old ≡ 65536 }
+    requires { length left.old ≡ most_frames }
     ensures { IsUsed left.old left.new there spot }
 {
     if there {
@@ -94,7 +95,7 @@ fn use_spot(left: &mut [bool], there: bool, spot: Spot)
 }
 
 fn set(left: &mut [bool], frame: u16, now: bool)
-    requires { length left.old ≡ 65536 }
+    requires { length left.old ≡ most_frames }
     ensures { IsSet left.old left.new frame now }
 {
     left[usize::from(frame)] = now;
