@@ -168,22 +168,3 @@ pub fn says(
 ) {
     done(rt, alloc, SOLO, source, garbler, evaluator, said);
 }
-
-/// `solo` whose source is refused, whatever the inputs: the language is tested before them.
-pub fn faulty(rt: &impl Abort, alloc: Global, source: &[u8], warned: &[u8]) {
-    let status = Status::Language;
-    refused(rt, alloc, SOLO, source, b"no number", b"", status, warned);
-}
-
-/// `solo` of which an input text is refused.
-pub fn bad_input(
-    rt: &impl Abort,
-    alloc: Global,
-    source: &[u8],
-    garbler: &[u8],
-    evaluator: &[u8],
-    warned: &[u8],
-) {
-    let status = Status::InputText;
-    refused(rt, alloc, SOLO, source, garbler, evaluator, status, warned);
-}

@@ -11,18 +11,10 @@ mod desk;
 #[cfg(test)]
 mod generated;
 #[cfg(test)]
-mod language;
-#[cfg(test)]
 mod programs;
 #[cfg(test)]
 mod solo;
 #[cfg(test)]
-mod stats;
-#[cfg(test)]
 mod stores;
 #[cfg(test)]
 mod upgrades;
-#[cfg(test)]
-mod wide;
-#[cfg(test)]
-mod words;
