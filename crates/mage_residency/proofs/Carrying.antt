@@ -1,12 +1,9 @@
 -- The list of the rule carries the program: instruction after instruction.
-use Rattle.std.proofs.Common.{◌≡◌, ◌≢◌, ◌<◌, ◌≤◌, ◌+◌, ◌&&◌, ◌||◌, ◌⊎◌, inl, inr, zero, suc, ℕ, Bool, true, false, cond, List, [], ◌∷◌, ◌++◌, Option, None, Some, IsSomeAnd, Contains, length, drop, get_or, set, refl, sym, ◌∙◌, ap, arith, ⊎_elim, subst}
+use Rattle.std.proofs.Common.{◌≡◌, ◌≢◌, ◌<◌, ◌≤◌, ◌+◌, ◌&&◌, ◌||◌, zero, suc, ℕ, Bool, true, false, cond, List, [], ◌∷◌, ◌++◌, Option, None, Some, IsSomeAnd, Contains, length, drop, get_or, set, refl, sym, ◌∙◌, ap, arith, ⊎_elim, subst}
 use Rattle.std.specs.Prelude.{slice_get, nat_eq, nat_le}
-use Rattle.std.proofs.lemmas.Bool.{cases_lt, cases_eq, or_cases, or_left, or_right, and_from, eq-eqb, ne_eqb, lt-ltb, le-leb, false≢true}
-use Rattle.std.proofs.lemmas.Cmp.{nat_eq_equiv}
+use Rattle.std.proofs.lemmas.Bool.{cases_lt, cases_eq, or_left, or_right, and_from, eq-eqb, ne_eqb, lt-ltb, le-leb, false≢true}
 use Rattle.std.proofs.lemmas.List.{at_drop_all, length-set, length-replicate}
-use Rattle.std.proofs.lemmas.List.Elements.{Contains-append_left, Contains-append_right, Contains-append_cases}
-use Rattle.std.proofs.lemmas.List.Folds.{list_any-append}
-use Rattle.std.proofs.lemmas.Map.Views.{list_any-from_Contains, Contains-from_any, exact_unsigned_eq}
+use Rattle.std.proofs.lemmas.List.Elements.{Contains-append_left, Contains-append_right}
 use Rattle.mage_instr.specs.declared.instr.TheConstants.{NEVER}
 use Rattle.mage_instr.specs.declared.instr.Instr.{Instr}
 use Rattle.mage_instr.specs.declared.instr.Place.{Place}
@@ -15,7 +12,7 @@ use Rattle.mage_instr.specs.declared.replaced.Replaced.TheVariants as entry
 use Rattle.mage_instr.specs.Opcodes.{arity_of, has_result, width_of_result, width_of_arg}
 use Rattle.mage_instr.specs.Sound.{arg_of, IsSound}
 use Rattle.mage_instr.specs.Trace.{pages_of}
-use Rattle.mage_next.specs.Next.{first_use, has_page}
+use Rattle.mage_next.specs.Next.{first_use}
 use Rattle.mage_place.specs.Live.{args_of, values_touched_by, IsLive}
 use Rattle.mage_place.specs.Places.{place_of, ArePlaces}
 use Rattle.mage_place.specs.Steps.{AreSteps, IsStepOf}
@@ -44,11 +41,7 @@ use Rattle.mage_residency.proofs.Dirty.{is_dirty, is_dirty-written}
 use Rattle.mage_residency.proofs.Doing.{put_nothing, goes_on}
 use Rattle.mage_residency.proofs.Frames.{frame_of-at}
 use Rattle.mage_residency.proofs.Kept.{HasLive, Known, Keeps}
-use Rattle.mage_residency.proofs.Turning.{no_step, IsTurn, turn_at, each_step, rule_turns}
-
--- what some pages have, and others
-both_have : (q : ℕ) (seen pages : List ℕ) → (is_in q seen || is_in q pages) ≡ true → is_in q (seen ++ pages) ≡ true
-both_have q seen pages h = list_any-append (nat_eq q) seen pages ∙ h
+use Rattle.mage_residency.proofs.Turning.{no_step, IsTurn, turn_at, each_step, rule_turns, AddsPages, adds_pages}
 
 has_it : (a : ℕ) → has (nat_eq a) (Some a) ≡ true
 has_it a = eq-eqb a a refl
@@ -62,11 +55,8 @@ module _ (frames page : ℕ) (instrs : List Instr) (places : List Place) (sound 
 
   -- Instruction t, its step, and the frames once the pages of the step are in memory.
   module _ (t : ℕ) (i : Instr) (step : Step) (steps : List Step) (seen : List ℕ) (held : List Held) (s : State)
-      (is : slice_get instrs t ≡ Some i) (its : IsStepOf places t i step) (early : t < NEVER) (known : Known frames instrs places t seen)
+      (is : slice_get instrs t ≡ Some i) (its : IsStepOf places t i step) (pages : AddsPages frames instrs places t i step steps seen)
       (here : (q : ℕ) → is_in q (pages_of step) ≡ true → is_in q (resident held) ≡ true) (k : Keeps frames instrs places t seen held (step ∷ steps) s) where
-    needed : (v : ℕ) → Contains (values_touched_by i t) v → is_in (page_of v) (pages_of step) ≡ true
-    needed v touched = list_any-from_Contains nat_eq_equiv (page_of v) (pages_of step) ((its.pages (page_of v)).1 (v, touched, refl))
-
     -- argument k of the instruction
     arg_among : (n : ℕ) → n < arity_of i.op → Contains (args_of i) (arg_of i n)
     arg_among n below =
@@ -105,7 +95,7 @@ module _ (frames page : ℕ) (instrs : List Instr) (places : List Place) (sound 
     there : (n : ℕ) → n < arity_of i.op → is_there n ≡ true
     there n below =
         let touched : Contains (values_touched_by i t) (arg_of i n) = Contains-append_left (args_of i) _ (arg_of i n) (arg_among n below) in
-        let found = frame_has (page_of (arg_of i n)) (needed (arg_of i n) touched) in
+        let found = frame_has (page_of (arg_of i n)) (pages.needed (arg_of i n) touched) in
         let stands = found.2 (arg_of i n) (arg_lives n below) refl in
         rw (lt-ltb n (arity_of i.op) below, found.1, stands) (has_it (arg_of i n))
 
@@ -141,35 +131,9 @@ module _ (frames page : ℕ) (instrs : List Instr) (places : List Place) (sound 
           same_instr : (x y : Instr) → ◌≡◌ {A = Option Instr} (Some x) (Some y) → x ≡ y
           same_instr x y h = cc
 
-    -- a page of the step on which no result is put was had before
-    had_before : (q : ℕ) → (has_result i.op ≡ true → page_of t ≢ q) → is_in q (seen ++ pages_of step) ≡ true → is_in q seen ≡ true
-    had_before q other h = ⊎_elim (λ e. e) among (or_cases (is_in q seen) (is_in q (pages_of step)) (sym (list_any-append (nat_eq q) seen (pages_of step)) ∙ h)) where
-      among : is_in q (pages_of step) ≡ true → is_in q seen ≡ true
-      among m =
-          let need = (its.pages q).0 (Contains-from_any exact_unsigned_eq q (pages_of step) m) in
-          by_value need.0 need.2 (Contains-append_cases (args_of i) _ need.0 need.1)
-        where
-          by_value : (v : ℕ) → page_of v ≡ q → Contains (args_of i) v ⊎ Contains (cond (has_result i.op) (t ∷ []) []) v → is_in q seen ≡ true
-          by_value v on (inl c) = let a = arg_below instrs t v i sound is c in ap (λ x. is_in x seen) (sym on) ∙ known v a.0 a.1
-          by_value v on (inr c) = own (has_result i.op) refl c where
-            own : (b : Bool) → has_result i.op ≡ b → Contains (cond b (t ∷ []) []) v → is_in q seen ≡ true
-            own true e c = absurd (other e (ap page_of (only c) ∙ on)) where
-              only : Contains (t ∷ []) v → t ≡ v
-              only c = at c.0 c.1 c.2 where
-                at : (n : ℕ) → n < 1 → get_or (t ∷ []) n v ≡ v → t ≡ v
-                at zero less e = e
-                at (suc n) less e = absurd (omega (arith, less))
-            own false e c = absurd (let less = c.1 in omega (arith, less))
-
-    used_before : (q : ℕ) → first_use steps (t + 1) q ≢ NEVER → first_use (step ∷ steps) t q ≢ NEVER
-    used_before q later = go (has_page step q) where
-      go : (b : Bool) → cond b t (first_use steps (t + 1) q) ≢ NEVER
-      go true e = omega (arith, early, e)
-      go false e = later e
-
     -- the store keeps the live values of its pages
     store_keeps : (q : ℕ) → (has_result i.op ≡ true → page_of t ≢ q) → is_in q (seen ++ pages_of step) ≡ true → is_dirty q held ≡ false → first_use steps (t + 1) q ≢ NEVER → IsSomeAnd (s.pages q) (λ content. HasLive frames instrs places content (t + 1) q)
-    store_keeps q other m clean later = kept (s.pages q) (k.in_store q (had_before q other m) clean (used_before q later)) where
+    store_keeps q other m clean later = kept (s.pages q) (k.in_store q (pages.had_before q other m) clean (pages.used_before q later)) where
       kept : (o : Option Content) → IsSomeAnd o (λ content. HasLive frames instrs places content t q) → IsSomeAnd o (λ content. HasLive frames instrs places content (t + 1) q)
       kept None h = h
       kept (Some content) h = older content q other h
@@ -177,19 +141,6 @@ module _ (frames page : ℕ) (instrs : List Instr) (places : List Place) (sound 
     frame_keeps : (o : Option Content) (q : ℕ) → (has_result i.op ≡ true → page_of t ≢ q) → IsSomeAnd o (λ content. HasLive frames instrs places content t q) → IsSomeAnd o (λ content. HasLive frames instrs places content (t + 1) q)
     frame_keeps None q other h = h
     frame_keeps (Some content) q other h = older content q other h
-
-    pub known_more : Known frames instrs places (t + 1) (seen ++ pages_of step)
-    known_more v less defined = both_have (page_of v) seen (pages_of step) (⊎_elim own (λ ne. or_left (is_in (page_of v) seen) (is_in (page_of v) (pages_of step)) (known v (omega (arith, less, ne)) defined)) (cases_eq v t)) where
-      own : v ≡ t → (is_in (page_of v) seen || is_in (page_of v) (pages_of step)) ≡ true
-      own e =
-          let same : ◌≡◌ {A = Option Instr} (Some i) (Some defined.0) = sym is ∙ ap (slice_get instrs) (sym e) ∙ defined.1 in
-          let one : i ≡ defined.0 = same_instr i defined.0 same in
-          let has_one : has_result i.op ≡ true = ap (λ (x : Instr). has_result x.op) one ∙ defined.2 in
-          let last : Contains (cond (has_result i.op) (t ∷ []) []) t = rw has_one (0, omega arith, refl) in
-          or_right (is_in (page_of v) seen) (is_in (page_of v) (pages_of step)) (ap (λ x. is_in (page_of x) (pages_of step)) e ∙ needed t (Contains-append_right (args_of i) _ t last))
-        where
-          same_instr : (x y : Instr) → ◌≡◌ {A = Option Instr} (Some x) (Some y) → x ≡ y
-          same_instr x y h = cc
 
     abbrev Later : (q : ℕ) → Content → Type 0
     Later q content = HasLive frames instrs places content (t + 1) q
@@ -218,7 +169,7 @@ module _ (frames page : ℕ) (instrs : List Instr) (places : List Place) (sound 
       on_step : is_in (page_of t) (pages_of step) ≡ true
       on_step =
           let last : Contains (cond (has_result i.op) (t ∷ []) []) t = rw result (0, omega arith, refl) in
-          needed t (Contains-append_right (args_of i) _ t last)
+          pages.needed t (Contains-append_right (args_of i) _ t last)
 
       f : ℕ
       f = frame_of (page_of t) (resident held)
@@ -309,8 +260,9 @@ module _ (frames page : ℕ) (instrs : List Instr) (places : List Place) (sound 
         let came = came_all frames (first_use steps (t + 1)) seen pages (resident held) few pages held 0 (λ q m. m) (starts frames pages (resident held) (λ x. is_in x seen) (first_use steps (t + 1)) k.distinct (omega (arith, long, fits_now))) in
         let come = all_come frames page instrs places t seen step steps sound early known few pages held s (λ q m. m) kept in
         let after = cond (has_result i.op) (written (page_of t) moved.held) moved.held in
-        let one = done t i step steps seen moved.held come.0 here.is here.its early known came.has come.2 in
-        let rest = walks n (t + 1) (seen ++ pages) after one.0 (omega (arith, all)) (known_more t i step steps seen moved.held come.0 here.is here.its early known came.has come.2) one.2 in
+        let more = adds_pages frames instrs places sound t i step steps seen here.is here.its early known in
+        let one = done t i step steps seen moved.held come.0 here.is here.its more came.has come.2 in
+        let rest = walks n (t + 1) (seen ++ pages) after one.0 (omega (arith, all)) more.known_more one.2 in
         let turn : rule_from frames places t seen held (drop t instrs) (drop t trace) ≡ moved.entries ++ entry.Do (job_in moved.held places t i) ∷ rule_from frames places (t + 1) (seen ++ pages) after (drop (t + 1) instrs) steps =
         rule_turns instrs places trace steps_are frames t seen held in_instrs in
         let did : all_done instrs page s (rule_from frames places t seen held (drop t instrs) (drop t trace)) ≡ all_done instrs page one.0 (rule_from frames places (t + 1) (seen ++ pages) after (drop (t + 1) instrs) steps) =

@@ -1,13 +1,11 @@
 -- Each entry of the rule's list is one that the schedule takes.
-use Rattle.std.proofs.Common.{◌≡◌, ◌≢◌, ◌<◌, ◌≤◌, ◌+◌, ◌-◌, ◌&&◌, ◌||◌, ◌⊎◌, inl, inr, zero, suc, ℕ, Bool, true, false, not, cond, List, [], ◌∷◌, ◌++◌, Option, None, Some, Contains, length, drop, get_or, set, nat_eq, nat_lt, refl, sym, ◌∙◌, ap, arith, ⊎_elim, subst, append_assoc}
+use Rattle.std.proofs.Common.{◌≡◌, ◌≢◌, ◌<◌, ◌≤◌, ◌+◌, ◌-◌, ◌&&◌, ◌||◌, ◌⊎◌, inl, inr, zero, suc, ℕ, Bool, true, false, not, cond, List, [], ◌∷◌, ◌++◌, None, Some, Contains, length, drop, get_or, set, nat_eq, nat_lt, refl, sym, ◌∙◌, ap, arith, ⊎_elim, subst, append_assoc}
 use Rattle.std.specs.Prelude.{slice_get}
 use Rattle.std.specs.List.{filter}
-use Rattle.std.proofs.lemmas.Bool.{cases_eq, or_cases, or_left, or_right, and_right, eq-eqb, ne_eqb, eqb-true, ltb-true, ltb-false, false≢true, false_from_ne_true}
-use Rattle.std.proofs.lemmas.Cmp.{nat_eq_equiv}
+use Rattle.std.proofs.lemmas.Bool.{cases_eq, or_left, or_right, and_right, eq-eqb, ne_eqb, eqb-true, ltb-true, ltb-false, false≢true, false_from_ne_true}
 use Rattle.std.proofs.lemmas.List.{at_drop_all, length-drop, length-set, length_push}
-use Rattle.std.proofs.lemmas.List.Elements.{Contains-append_right, Contains-append_cases}
+use Rattle.std.proofs.lemmas.List.Elements.{Contains-append_right}
 use Rattle.std.proofs.lemmas.List.Folds.{list_any-append}
-use Rattle.std.proofs.lemmas.Map.Views.{list_any-from_Contains, Contains-from_any, exact_unsigned_eq}
 use Rattle.std.proofs.lemmas.Option.{slice_get-get_or, slice_get_past}
 use Rattle.mage_instr.specs.declared.instr.TheConstants.{NEVER}
 use Rattle.mage_instr.specs.declared.instr.Instr.{Instr}
@@ -18,12 +16,12 @@ use Rattle.mage_instr.specs.declared.replaced.Replaced.TheVariants as entry
 use Rattle.mage_instr.specs.Opcodes.{has_result}
 use Rattle.mage_instr.specs.Sound.{IsSound}
 use Rattle.mage_instr.specs.Trace.{pages_of}
-use Rattle.mage_next.specs.Next.{first_use, has_page}
-use Rattle.mage_place.specs.Live.{args_of, values_touched_by}
+use Rattle.mage_next.specs.Next.{first_use}
+use Rattle.mage_place.specs.Live.{args_of}
 use Rattle.mage_place.specs.Places.{place_of}
-use Rattle.mage_place.specs.Steps.{AreSteps, IsStepOf}
+use Rattle.mage_place.specs.Steps.{AreSteps}
 use Rattle.mage_place.proofs.At.{slice_get-set_same, slice_get-set_other, slice_get-push_same, slice_get-push_other}
-use Rattle.mage_place.proofs.SoundFacts.{no_instr, Defined, arg_below}
+use Rattle.mage_place.proofs.SoundFacts.{no_instr}
 use Rattle.mage_belady.specs.Plan.{is_in, AreDistinct}
 use Rattle.mage_belady.specs.Rule.{Held, Moved, resident, victim_of, frame_of, entering, into_free, into_victims, brought_in, visited, all_brought_in, job_in, written, rule_from, rule_of, tight_of}
 use Rattle.mage_belady.proofs.Bringing.{resident-set, resident-push, length-resident}
@@ -36,7 +34,8 @@ use Rattle.mage_sched.specs.Reads.{page_in, is_page}
 use Rattle.mage_sched.specs.Rule.{came_in, is_saved, is_loaded, in_memory, takes, IsEntry, AreEntries}
 use Rattle.mage_residency.proofs.Coming.{clean_page, still, turned}
 use Rattle.mage_residency.proofs.Dirty.{is_dirty, is_dirty-at, is_dirty-missing, is_dirty-push, is_dirty-set, is_dirty-written}
-use Rattle.mage_residency.proofs.Turning.{no_step, IsTurn, turn_at, each_step, rule_turns}
+use Rattle.mage_residency.proofs.Kept.{Known}
+use Rattle.mage_residency.proofs.Turning.{no_step, IsTurn, turn_at, each_step, rule_turns, AddsPages, adds_pages}
 use Rattle.mage_residency.specs.Carried.{HaveArguments}
 use Rattle.mage_schedulable.specs.Replacing.{RuleListsAreReplaced}
 use Rattle.mage_schedulable.specs.Standing.{AllFindPlaces, RuleListsFindPlaces}
@@ -314,54 +313,7 @@ module _ (frames : ℕ) (instrs : List Instr) (places : List Place) (sound : IsS
   abbrev page_of : ℕ → ℕ
   page_of v = (place_of places v).page
 
-  -- the steps so far had the page of each value
-  abbrev Known : (t : ℕ) (seen : List ℕ) → Type 0
-  Known t seen = (v : ℕ) → v < t → Defined instrs v → is_in (page_of v) seen ≡ true
-
-  module _ (t : ℕ) (i : Instr) (step : Step) (steps : List Step) (seen : List ℕ) (is : slice_get instrs t ≡ Some i) (its : IsStepOf places t i step) (early : t < NEVER) (known : Known t seen) where
-    needed : (v : ℕ) → Contains (values_touched_by i t) v → is_in (page_of v) (pages_of step) ≡ true
-    needed v touched = list_any-from_Contains nat_eq_equiv (page_of v) (pages_of step) ((its.pages (page_of v)).1 (v, touched, refl))
-
-    only : (v : ℕ) → Contains (t ∷ []) v → t ≡ v
-    only v c = at c.0 c.1 c.2 where
-      at : (n : ℕ) → n < 1 → get_or (t ∷ []) n v ≡ v → t ≡ v
-      at zero less e = e
-      at (suc n) less e = absurd (omega (arith, less))
-
-    -- a page of the step on which no result is put was had before
-    had_before : (q : ℕ) → (has_result i.op ≡ true → page_of t ≢ q) → is_in q (seen ++ pages_of step) ≡ true → is_in q seen ≡ true
-    had_before q other h = ⊎_elim (λ e. e) among (or_cases (is_in q seen) (is_in q (pages_of step)) (sym (list_any-append (nat_eq q) seen (pages_of step)) ∙ h)) where
-      among : is_in q (pages_of step) ≡ true → is_in q seen ≡ true
-      among m =
-          let need = (its.pages q).0 (Contains-from_any exact_unsigned_eq q (pages_of step) m) in
-          by_value need.0 need.2 (Contains-append_cases (args_of i) _ need.0 need.1)
-        where
-          by_value : (v : ℕ) → page_of v ≡ q → Contains (args_of i) v ⊎ Contains (cond (has_result i.op) (t ∷ []) []) v → is_in q seen ≡ true
-          by_value v on (inl c) = let a = arg_below instrs t v i sound is c in ap (λ x. is_in x seen) (sym on) ∙ known v a.0 a.1
-          by_value v on (inr c) = own (has_result i.op) refl c where
-            own : (b : Bool) → has_result i.op ≡ b → Contains (cond b (t ∷ []) []) v → is_in q seen ≡ true
-            own true e c = absurd (other e (ap page_of (only v c) ∙ on))
-            own false e c = absurd (let less = c.1 in omega (arith, less))
-
-    used_before : (q : ℕ) → first_use steps (t + 1) q ≢ NEVER → first_use (step ∷ steps) t q ≢ NEVER
-    used_before q later = go (has_page step q) where
-      go : (b : Bool) → cond b t (first_use steps (t + 1) q) ≢ NEVER
-      go true e = omega (arith, early, e)
-      go false e = later e
-
-    known_more : Known (t + 1) (seen ++ pages_of step)
-    known_more v less defined = list_any-append (nat_eq (page_of v)) seen (pages_of step) ∙ ⊎_elim own (λ ne. or_left (is_in (page_of v) seen) (is_in (page_of v) (pages_of step)) (known v (omega (arith, less, ne)) defined)) (cases_eq v t) where
-      own : v ≡ t → (is_in (page_of v) seen || is_in (page_of v) (pages_of step)) ≡ true
-      own e =
-          let same : ◌≡◌ {A = Option Instr} (Some i) (Some defined.0) = sym is ∙ ap (slice_get instrs) (sym e) ∙ defined.1 in
-          let one : i ≡ defined.0 = same_instr i defined.0 same in
-          let has_one : has_result i.op ≡ true = ap (λ (x : Instr). has_result x.op) one ∙ defined.2 in
-          let last : Contains (cond (has_result i.op) (t ∷ []) []) t = rw has_one (0, omega arith, refl) in
-          or_right (is_in (page_of v) seen) (is_in (page_of v) (pages_of step)) (ap (λ x. is_in (page_of x) (pages_of step)) e ∙ needed t (Contains-append_right (args_of i) _ t last))
-        where
-          same_instr : (x y : Instr) → ◌≡◌ {A = Option Instr} (Some x) (Some y) → x ≡ y
-          same_instr x y h = cc
-
+  module _ (t : ℕ) (i : Instr) (step : Step) (steps : List Step) (seen : List ℕ) (pages : AddsPages frames instrs places t i step steps seen) where
     -- behind the instruction
     goes_on : (S : List ℕ) (held : List Held) (before : List Replaced) → ((q : ℕ) → is_in q (pages_of step) ≡ true → is_in q (resident held) ≡ true) → Follows frames t seen (pages_of step) held (step ∷ steps) before
         → Follows frames (t + 1) (seen ++ pages_of step) S (cond (has_result i.op) (written (page_of t) held) held) steps (entry.Do (job_in held places t i) ∷ before)
@@ -389,15 +341,15 @@ module _ (frames : ℕ) (instrs : List Instr) (places : List Place) (sound : IsS
       either q (inr e) = or_right (is_in q seen) (is_in q (pages_of step)) e
 
       kept : (q : ℕ) → is_in q (seen ++ pages_of step) ≡ true → first_use steps (t + 1) q ≢ NEVER → (b : Bool) → has_result i.op ≡ b → is_dirty q (cond b (written (page_of t) held) held) ≡ false → is_saved before q ≡ true
-      kept q m later false e clean = k.saved q (had_before q (λ r. absurd (false≢true (sym e ∙ r))) m) clean (used_before q later)
+      kept q m later false e clean = k.saved q (pages.had_before q (λ r. absurd (false≢true (sym e ∙ r))) m) clean (pages.used_before q later)
       kept q m later true e clean =
           let last : Contains (cond (has_result i.op) (t ∷ []) []) t = rw e (0, omega arith, refl) in
-          let there = here (page_of t) (needed t (Contains-append_right (args_of i) _ t last)) in
+          let there = here (page_of t) (pages.needed t (Contains-append_right (args_of i) _ t last)) in
           let was = is_dirty-written (page_of t) q held there (frame_of-has (page_of t) (resident held) there) clean in
-          k.saved q (had_before q (λ r p. was.0 (sym p)) m) was.1 (used_before q later)
+          k.saved q (pages.had_before q (λ r p. was.0 (sym p)) m) was.1 (pages.used_before q later)
 
   module _ (trace : List Step) (steps_are : AreSteps instrs places trace) (none : tight_of frames 0 trace ≡ None) where
-    walks : (n t : ℕ) (seen : List ℕ) (held : List Held) (before : List Replaced) → t + n ≡ length instrs → Known t seen → AllFit frames (drop t trace) → Ready frames places seen held
+    walks : (n t : ℕ) (seen : List ℕ) (held : List Held) (before : List Replaced) → t + n ≡ length instrs → Known frames instrs places t seen → AllFit frames (drop t trace) → Ready frames places seen held
         → ((S : List ℕ) → Follows frames t seen S held (drop t trace) before) → Right frames instrs places t before (rule_from frames places t seen held (drop t instrs) (drop t trace))
     walks zero t seen held before all known fit ready k =
         let ended : rule_from frames places t seen held (drop t instrs) (drop t trace) ≡ [] = at_drop_all (λ (rest : List Instr). rule_from frames places t seen held rest (drop t trace)) instrs t (omega (arith, all)) in
@@ -417,7 +369,7 @@ module _ (frames : ℕ) (instrs : List Instr) (places : List Place) (sound : IsS
         let c = came frames places t seen held step steps ready fit_now.1 in
         let after : List Held = cond (has_result i.op) (written (page_of t) moved.held) moved.held in
         let ready_then = after_ready frames places (first_use steps (t + 1)) seen pages held moved (has_result i.op) (page_of t) ready c in
-        let more = known_more t i step steps seen here.is here.its early known in
+        let more = adds_pages frames instrs places sound t i step steps seen here.is here.its early known in
         let rest = rule_from frames places (t + 1) (seen ++ pages) after (drop (t + 1) instrs) steps in
         let turn : rule_from frames places t seen held (drop t instrs) (drop t trace) ≡ moved.entries ++ entry.Do (job_in moved.held places t i) ∷ rest =
         rule_turns instrs places trace steps_are frames t seen held in_instrs in
@@ -425,8 +377,8 @@ module _ (frames : ℕ) (instrs : List Instr) (places : List Place) (sound : IsS
         let done : Right frames instrs places t before (moved.entries ++ entry.Do (job_in moved.held places t i) ∷ rest) =
         brings_all frames instrs places t seen step steps early fit_now.1 pages held before (entry.Do (job_in moved.held places t i) ∷ rest) (λ q m. m) now
         (λ b h.
-        let right = walks n (t + 1) (seen ++ pages) after (entry.Do (job_in moved.held places t i) ∷ b) (omega (arith, all)) more fit_now.2 ready_then
-        (λ S. goes_on t i step steps seen here.is here.its early known S moved.held b c.has h) in
+        let right = walks n (t + 1) (seen ++ pages) after (entry.Do (job_in moved.held places t i) ∷ b) (omega (arith, all)) more.known_more fit_now.2 ready_then
+        (λ S. goes_on t i step steps seen more S moved.held b c.has h) in
         ((tt, right.0), λ have. (finds_places instrs places t i step moved.held b here.is here.its have c.has h.frame, right.1 have)))
         (λ q had absent used. loads_later frames places steps (drop (t + 1) instrs) (t + 1) (seen ++ pages) after q fit_now.2 ready_then as_many
         (list_any-append (nat_eq q) seen pages ∙ or_left (is_in q seen) (is_in q pages) had)
