@@ -12,6 +12,7 @@ use Rattle.mage_label.specs.Labels.{xor}
 use Rattle.mage_driver.specs.Calls.{Call, And, Input, Output, call_of}
 use Rattle.mage_relations.specs.Each.{Each}
 use Rattle.mage_relations.specs.Unplaced.{Unplaced, starting_in, calls_of}
+use Rattle.mage_relations.proofs.EachLemmas.{Same, each_same, same_lists}
 use Rattle.mage_relations.proofs.Keeping.{KeepsCalls}
 use Rattle.mage_relations.proofs.Runs.{Related, keeps_run}
 use Rattle.mage_streams.specs.Evaluating.{Evaluator, evaluating, after_output, after_reading, after_taking, decoded_bits, label_of_and, taken_labels}
@@ -43,34 +44,7 @@ pub record Follows (room : ℕ) (e e' : Evaluator) (d : Evaluating) (rest : List
   pub evaluator : ◌≡◌ {A = Evaluator} (record d.evaluator { outputs = e'.outputs }) e'
   pub outputs : d.evaluator.outputs ≡ take room e'.outputs
 
-abbrev pub Same : Label → Label → Label → Type 0
-Same a b c = (a ≡ b) × (c ≡ b)
-
 module _ (room : ℕ) where
-  each_same : (xs : List Label) → Each Same xs xs xs
-  each_same [] = tt
-  each_same (x ∷ xs) = ((refl, refl), each_same xs)
-
-  same_first : (xs ys zs : List Label) → Each Same xs ys zs → xs ≡ ys
-  same_first [] [] [] e = refl
-  same_first [] [] (z ∷ zs) e = absurd e
-  same_first [] (y ∷ ys) [] e = absurd e
-  same_first [] (y ∷ ys) (z ∷ zs) e = absurd e
-  same_first (x ∷ xs) [] [] e = absurd e
-  same_first (x ∷ xs) [] (z ∷ zs) e = absurd e
-  same_first (x ∷ xs) (y ∷ ys) [] e = absurd e
-  same_first (x ∷ xs) (y ∷ ys) (z ∷ zs) e = ap₂ (λ (v : Label) (vs : List Label). v ∷ vs) e.0.0 (same_first xs ys zs e.1)
-
-  same_last : (xs ys zs : List Label) → Each Same xs ys zs → zs ≡ ys
-  same_last [] [] [] e = refl
-  same_last [] [] (z ∷ zs) e = absurd e
-  same_last [] (y ∷ ys) [] e = absurd e
-  same_last [] (y ∷ ys) (z ∷ zs) e = absurd e
-  same_last (x ∷ xs) [] [] e = absurd e
-  same_last (x ∷ xs) [] (z ∷ zs) e = absurd e
-  same_last (x ∷ xs) (y ∷ ys) [] e = absurd e
-  same_last (x ∷ xs) (y ∷ ys) (z ∷ zs) e = ap₂ (λ (v : Label) (vs : List Label). v ∷ vs) e.0.1 (same_last xs ys zs e.1)
-
   ands : (e e' : Evaluator) (d : Evaluating) (rest : List (Call Evaluator Label)) (a a' b b' c c' : Label) → Follows room e e' d (call_of evaluating e' (And b b') ∷ rest) → Same a b c → Same a' b' c' →
       Follows room (after_reading e) (after_reading e') ((eval_rules.and d c c').0) rest × Same (label_of_and e a a') (label_of_and e' b b') (label_of_and d.evaluator c c')
   ands e e' d rest a a' b b' c c' follows same same' = (
@@ -118,11 +92,11 @@ module _ (room : ℕ) where
       Follows room (after_output e xs) (after_output e' ys) (eval_rules.output d zs) rest
   outputs e e' d rest xs ys zs follows each =
       let bits : decoded_bits zs d.evaluator.left ≡ decoded_bits ys e'.left =
-      ap₂ (λ (vs : List Label) (left : List ℕ). decoded_bits vs left) (same_last xs ys zs each) (ap (λ (h : Evaluator). h.left) follows.evaluator) in
+      ap₂ (λ (vs : List Label) (left : List ℕ). decoded_bits vs left) (same_lists xs ys zs each).1 (ap (λ (h : Evaluator). h.left) follows.evaluator) in
       record {
-        twice = ap₂ (λ (h : Evaluator) (vs : List Label). after_output h vs) follows.twice (same_first xs ys zs each);
+        twice = ap₂ (λ (h : Evaluator) (vs : List Label). after_output h vs) follows.twice (same_lists xs ys zs each).0;
         rooms = follows.rooms;
-        evaluator = ap (λ (vs : List Label). record d.evaluator { left = drop (length vs) d.evaluator.left; outputs = (after_output e' ys).outputs }) (same_last xs ys zs each)
+        evaluator = ap (λ (vs : List Label). record d.evaluator { left = drop (length vs) d.evaluator.left; outputs = (after_output e' ys).outputs }) (same_lists xs ys zs each).1
             ∙ ap (λ (h : Evaluator). record h { left = drop (length ys) h.left; outputs = (after_output e' ys).outputs }) follows.evaluator;
         outputs = ap (λ (r : ℕ). kept r d.evaluator.outputs (number (decoded_bits zs d.evaluator.left))) follows.rooms
             ∙ ap₂ (λ (os : List ℕ) (bs : List Bool). kept room os (number bs)) follows.outputs bits ∙ kept_take room e'.outputs (number (decoded_bits ys e'.left));

@@ -11,6 +11,7 @@ use Rattle.mage_label.specs.Labels.{xor}
 use Rattle.mage_driver.specs.Calls.{Ask, Call, And, Input, Output, Finish, SomeStops, call_of}
 use Rattle.mage_relations.specs.Each.{Each}
 use Rattle.mage_relations.specs.Unplaced.{Unplaced, starting_in, run_of, calls_of}
+use Rattle.mage_relations.proofs.EachLemmas.{Same, each_same, each_of, same_lists}
 use Rattle.mage_relations.proofs.Keeping.{KeepsCalls}
 use Rattle.mage_relations.proofs.Runs.{Related, keeps_run}
 use Rattle.mage_streams.specs.Garbling.{said_for}
@@ -18,31 +19,12 @@ use Rattle.mage_streams.specs.Streams.{garbled_stream}
 use Rattle.mage_garble.specs.Sending.{Sending, flushed, saying, sending_to, with_waiting, most_waiting}
 use Rattle.mage_garble.specs.Rule.{Garbling, garbling_from, garble_rules, sending_at_input}
 use Rattle.mage_garble.specs.Laws.{program_calls, NoneStops}
-use Rattle.mage_garble.proofs.Saying.{Same, all_said, all_said-saying, says_the_stream}
+use Rattle.mage_garble.proofs.Saying.{all_said, all_said-saying, says_the_stream}
 
 -- what is said at some calls of the driver
 abbrev said_of : List (Call Garbling Label) → List ℕ
 said_of [] = []
 said_of (call ∷ calls) = said_for call.state.garbler call.ask ++ said_of calls
-
-each_same : (xs : List Label) → Each Same xs xs xs
-each_same [] = tt
-each_same (x ∷ xs) = ((refl, refl), each_same xs)
-
-each_of : (xs ys zs : List Label) → xs ≡ ys → zs ≡ ys → Each Same xs ys zs
-each_of xs ys zs e f = subst (λ (l : List Label). Each Same l ys zs) (sym e) (subst (λ (l : List Label). Each Same ys ys l) (sym f) (each_same ys))
-
-same_lists : (xs ys zs : List Label) → Each Same xs ys zs → (xs ≡ ys) × (zs ≡ ys)
-same_lists [] [] [] e = (refl, refl)
-same_lists [] [] (z ∷ zs) e = absurd e
-same_lists [] (y ∷ ys) [] e = absurd e
-same_lists [] (y ∷ ys) (z ∷ zs) e = absurd e
-same_lists (x ∷ xs) [] [] e = absurd e
-same_lists (x ∷ xs) [] (z ∷ zs) e = absurd e
-same_lists (x ∷ xs) (y ∷ ys) [] e = absurd e
-same_lists (x ∷ xs) (y ∷ ys) (z ∷ zs) e =
-    let rest = same_lists xs ys zs e.1 in
-    (ap₂ (λ (v : Label) (vs : List Label). v ∷ vs) e.0.0 rest.0, ap₂ (λ (v : Label) (vs : List Label). v ∷ vs) e.0.1 rest.1)
 
 -- a driver whose sink is steady or not, had taken so many bytes at first and had this room; and all that it is to say
 module _ (steady : Bool) (first most : ℕ) (whole : List ℕ) where

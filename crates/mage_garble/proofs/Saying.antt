@@ -9,6 +9,7 @@ use Rattle.mage_label.specs.Labels.{xor}
 use Rattle.mage_driver.specs.Calls.{Ask, Call, And, Input, Output, call_of}
 use Rattle.mage_relations.specs.Each.{Each}
 use Rattle.mage_relations.specs.Unplaced.{Unplaced, starting_in}
+use Rattle.mage_relations.proofs.EachLemmas.{Same, each_same, same_lists}
 use Rattle.mage_relations.proofs.Keeping.{KeepsCalls}
 use Rattle.mage_relations.proofs.Runs.{Related, keeps_run}
 use Rattle.mage_streams.specs.Garbling.{Garbler, garbling, after_and, after_input, colour_of, inputs_of, next_and, said_for, said_at}
@@ -34,9 +35,6 @@ pub record Agrees (whole : List ℕ) (g g' : Garbler) (d : Garbling) (rest : Lis
   pub garbler : d.garbler ≡ g'
   pub said : all_said d.sending ++ said_at rest ≡ whole
 
-abbrev pub Same : Label → Label → Label → Type 0
-Same a b c = (a ≡ b) × (c ≡ b)
-
 module _ (whole : List ℕ) where
   -- a call after which this was said more
   moved : (g : Garbler) (d : Garbling) (rest : List (Call Garbler Label)) (ask : Ask Label) → all_said d.sending ++ said_at (call_of garbling g ask ∷ rest) ≡ whole →
@@ -60,10 +58,6 @@ module _ (whole : List ℕ) where
         ),
       )
 
-  each_same : (xs : List Label) → Each Same xs xs xs
-  each_same [] = tt
-  each_same (x ∷ xs) = ((refl, refl), each_same xs)
-
   inputs : (g g' : Garbler) (d : Garbling) (rest : List (Call Garbler Label)) (whose : Party) (count : ℕ) → Agrees whole g g' d (call_of garbling g' (Input whose count) ∷ rest) →
       Agrees whole (after_input g whose count) (after_input g' whose count) ((garble_rules.input d whose count).0) rest × Each Same (inputs_of g count) (inputs_of g' count) (inputs_of d.garbler count)
   inputs g g' d rest whose count agrees = (
@@ -80,23 +74,13 @@ module _ (whole : List ℕ) where
       more party.Garbler = all_said-saying d.sending (said_for d.garbler (Input party.Garbler count)) ∙ ap (λ (h : Garbler). all_said d.sending ++ said_for h (Input party.Garbler count)) agrees.garbler
       more party.Evaluator = sym (append-nil (all_said d.sending))
 
-  same_lists : (xs ys zs : List Label) → Each Same xs ys zs → zs ≡ ys
-  same_lists [] [] [] e = refl
-  same_lists [] [] (z ∷ zs) e = absurd e
-  same_lists [] (y ∷ ys) [] e = absurd e
-  same_lists [] (y ∷ ys) (z ∷ zs) e = absurd e
-  same_lists (x ∷ xs) [] [] e = absurd e
-  same_lists (x ∷ xs) [] (z ∷ zs) e = absurd e
-  same_lists (x ∷ xs) (y ∷ ys) [] e = absurd e
-  same_lists (x ∷ xs) (y ∷ ys) (z ∷ zs) e = ap₂ (λ (v : Label) (vs : List Label). v ∷ vs) e.0.1 (same_lists xs ys zs e.1)
-
   outputs : (g g' : Garbler) (d : Garbling) (rest : List (Call Garbler Label)) (xs ys zs : List Label) → Agrees whole g g' d (call_of garbling g' (Output ys) ∷ rest) → Each Same xs ys zs →
       Agrees whole g g' (garble_rules.output d zs) rest
   outputs g g' d rest xs ys zs agrees each = record {
     twice = agrees.twice;
     garbler = agrees.garbler;
     said = moved g' d rest (Output ys) agrees.said (saying d.sending (said_for d.garbler (Output zs)))
-        (all_said-saying d.sending (map colour_of zs) ∙ ap (λ (vs : List Label). all_said d.sending ++ map colour_of vs) (same_lists xs ys zs each));
+        (all_said-saying d.sending (map colour_of zs) ∙ ap (λ (vs : List Label). all_said d.sending ++ map colour_of vs) (same_lists xs ys zs each).1);
   }
 
   pub saying_keeps : KeepsCalls garbling garbling garble_rules (Agrees whole) Same

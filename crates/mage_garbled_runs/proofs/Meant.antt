@@ -20,6 +20,7 @@ use Rattle.mage_meaning.specs.Given.{Given}
 use Rattle.mage_meaning.specs.Means.{means_of}
 use Rattle.mage_relations.specs.Each.{Each}
 use Rattle.mage_relations.specs.Unplaced.{Unplaced, starting_in, run_of, calls_of}
+use Rattle.mage_relations.proofs.EachLemmas.{Same, each_same, same_lists}
 use Rattle.mage_relations.proofs.Keeping.{KeepsCalls}
 use Rattle.mage_relations.proofs.Runs.{Related, keeps_run}
 use Rattle.mage_streams.specs.Numbers.{next_value, number_after}
@@ -46,33 +47,6 @@ record Follows (room : ℕ) (r r' : Reckoner) (p : Plain) : Type 0 where
   pub garbler : p.garbler ≡ r'.garbler
   pub evaluator : p.evaluator ≡ r'.evaluator
   pub outputs : p.outputs ≡ take room r'.outputs
-
-abbrev Same : Bool → Bool → Bool → Type 0
-Same a b c = (a ≡ b) × (c ≡ b)
-
-each_same : (xs : List Bool) → Each Same xs xs xs
-each_same [] = tt
-each_same (x ∷ xs) = ((refl, refl), each_same xs)
-
-same_first : (xs ys zs : List Bool) → Each Same xs ys zs → xs ≡ ys
-same_first [] [] [] e = refl
-same_first [] [] (z ∷ zs) e = absurd e
-same_first [] (y ∷ ys) [] e = absurd e
-same_first [] (y ∷ ys) (z ∷ zs) e = absurd e
-same_first (x ∷ xs) [] [] e = absurd e
-same_first (x ∷ xs) [] (z ∷ zs) e = absurd e
-same_first (x ∷ xs) (y ∷ ys) [] e = absurd e
-same_first (x ∷ xs) (y ∷ ys) (z ∷ zs) e = ap₂ (λ (v : Bool) (vs : List Bool). v ∷ vs) e.0.0 (same_first xs ys zs e.1)
-
-same_last : (xs ys zs : List Bool) → Each Same xs ys zs → zs ≡ ys
-same_last [] [] [] e = refl
-same_last [] [] (z ∷ zs) e = absurd e
-same_last [] (y ∷ ys) [] e = absurd e
-same_last [] (y ∷ ys) (z ∷ zs) e = absurd e
-same_last (x ∷ xs) [] [] e = absurd e
-same_last (x ∷ xs) [] (z ∷ zs) e = absurd e
-same_last (x ∷ xs) (y ∷ ys) [] e = absurd e
-same_last (x ∷ xs) (y ∷ ys) (z ∷ zs) e = ap₂ (λ (v : Bool) (vs : List Bool). v ∷ vs) e.0.1 (same_last xs ys zs e.1)
 
 differ_xor : (a b : Bool) → differ a b ≡ xor_bits a b
 unfolding mathlib.Core.Bool.xor
@@ -118,12 +92,12 @@ module _ (room : ℕ) where
   after_output : (r r' : Reckoner) (p : Plain) (xs ys zs : List Bool) → Follows room r r' p →
       Each Same xs ys zs → Follows room (reckoning.output r xs) (reckoning.output r' ys) (plain_rules.output p zs)
   after_output r r' p xs ys zs h each = record {
-    twice = ap₂ (λ (q : Reckoner) (ws : List Bool). reckoning.output q ws) h.twice (same_first xs ys zs each);
+    twice = ap₂ (λ (q : Reckoner) (ws : List Bool). reckoning.output q ws) h.twice (same_lists xs ys zs each).0;
     rooms = h.rooms;
     garbler = h.garbler;
     evaluator = h.evaluator;
     outputs = ap (λ (k : ℕ). kept k p.outputs (number zs)) h.rooms
-        ∙ ap₂ (λ (os : List ℕ) (ws : List Bool). kept room os (number ws)) h.outputs (same_last xs ys zs each)
+        ∙ ap₂ (λ (os : List ℕ) (ws : List Bool). kept room os (number ws)) h.outputs (same_lists xs ys zs each).1
         ∙ kept_take room r'.outputs (number ys);
   }
 

@@ -1,5 +1,5 @@
 -- Lists that are related item by item.
-use Rattle.std.proofs.Common.{◌≡◌, ℕ, zero, suc, List, [], ◌∷◌, ◌++◌, length, take, drop, map, reverse, replicate, get_or, refl, ap}
+use Rattle.std.proofs.Common.{◌≡◌, ℕ, zero, suc, List, [], ◌∷◌, ◌++◌, length, take, drop, map, reverse, replicate, get_or, refl, sym, ap, ap₂, subst}
 use Rattle.std.specs.List.{zip}
 use Rattle.std.proofs.lemmas.List.{reverse-append}
 use Rattle.mage_relations.specs.Each.{Each}
@@ -107,3 +107,28 @@ each_map Q P f g h keeps (x ∷ xs) [] [] e = absurd e
 each_map Q P f g h keeps (x ∷ xs) [] (z ∷ zs) e = absurd e
 each_map Q P f g h keeps (x ∷ xs) (y ∷ ys) [] e = absurd e
 each_map Q P f g h keeps (x ∷ xs) (y ∷ ys) (z ∷ zs) e = (keeps x y z e.0, each_map Q P f g h keeps xs ys zs e.1)
+
+-- the same thing three times
+abbrev pub Same : {A : Type 0} → A → A → A → Type 0
+Same a b c = (a ≡ b) × (c ≡ b)
+
+-- and lists of it
+module _ {A : Type 0} where
+  pub each_same : (xs : List A) → Each Same xs xs xs
+  each_same [] = tt
+  each_same (x ∷ xs) = ((refl, refl), each_same xs)
+
+  pub each_of : (xs ys zs : List A) → xs ≡ ys → zs ≡ ys → Each Same xs ys zs
+  each_of xs ys zs e f = subst (λ (l : List A). Each Same l ys zs) (sym e) (subst (λ (l : List A). Each Same ys ys l) (sym f) (each_same ys))
+
+  pub same_lists : (xs ys zs : List A) → Each Same xs ys zs → (xs ≡ ys) × (zs ≡ ys)
+  same_lists [] [] [] e = (refl, refl)
+  same_lists [] [] (z ∷ zs) e = absurd e
+  same_lists [] (y ∷ ys) [] e = absurd e
+  same_lists [] (y ∷ ys) (z ∷ zs) e = absurd e
+  same_lists (x ∷ xs) [] [] e = absurd e
+  same_lists (x ∷ xs) [] (z ∷ zs) e = absurd e
+  same_lists (x ∷ xs) (y ∷ ys) [] e = absurd e
+  same_lists (x ∷ xs) (y ∷ ys) (z ∷ zs) e =
+      let rest = same_lists xs ys zs e.1 in
+      (ap₂ (λ (v : A) (vs : List A). v ∷ vs) e.0.0 rest.0, ap₂ (λ (v : A) (vs : List A). v ∷ vs) e.0.1 rest.1)

@@ -10,11 +10,11 @@ use Rattle.mage_linked.specs.declared.emitted.Emitted.{Emitted}
 use Rattle.mage_driver.specs.Calls.{Ask, Call, And, Input, Output, Finish, NoneIsDue, SomeStops, call_of, led_to, reached}
 use Rattle.mage_relations.specs.Each.{Each}
 use Rattle.mage_relations.specs.Unplaced.{Unplaced, starting_in, run_of, calls_of}
+use Rattle.mage_relations.proofs.EachLemmas.{Same, each_same, each_of, same_lists}
 use Rattle.mage_relations.proofs.Keeping.{KeepsCalls}
 use Rattle.mage_relations.proofs.Runs.{Related, keeps_run}
 use Rattle.mage_eval.specs.Reading.{sooner, wrong_piece, wrong_at_colours, wrong_at_end}
 use Rattle.mage_eval.specs.Rule.{Evaluating, eval_rules, wrong_at_input}
-use Rattle.mage_eval.proofs.PuttingOut.{Same}
 
 sooner_stays : (was now : Option DriverFault) (f : DriverFault) → was ≡ Some f → sooner was now ≡ Some f
 sooner_stays None now f e = absurd cc
@@ -41,25 +41,6 @@ stick_first steady last (x ∷ xs) ys h = (h.0, stick_first steady last xs ys h.
 pub stick_behind : (steady : Bool) (last : Option DriverFault) (xs ys : List (Call Evaluating Label)) → AllStick steady last (xs ++ ys) → AllStick steady last ys
 stick_behind steady last [] ys h = h
 stick_behind steady last (x ∷ xs) ys h = stick_behind steady last xs ys h.1
-
-each_same : (xs : List Label) → Each Same xs xs xs
-each_same [] = tt
-each_same (x ∷ xs) = ((refl, refl), each_same xs)
-
-each_of : (xs ys zs : List Label) → xs ≡ ys → zs ≡ ys → Each Same xs ys zs
-each_of xs ys zs e f = subst (λ (l : List Label). Each Same l ys zs) (sym e) (subst (λ (l : List Label). Each Same ys ys l) (sym f) (each_same ys))
-
-same_all : (xs ys zs : List Label) → Each Same xs ys zs → (xs ≡ ys) × (zs ≡ ys)
-same_all [] [] [] e = (refl, refl)
-same_all [] [] (z ∷ zs) e = absurd e
-same_all [] (y ∷ ys) [] e = absurd e
-same_all [] (y ∷ ys) (z ∷ zs) e = absurd e
-same_all (x ∷ xs) [] [] e = absurd e
-same_all (x ∷ xs) [] (z ∷ zs) e = absurd e
-same_all (x ∷ xs) (y ∷ ys) [] e = absurd e
-same_all (x ∷ xs) (y ∷ ys) (z ∷ zs) e =
-    let rest = same_all xs ys zs e.1 in
-    (ap₂ (λ (v : Label) (vs : List Label). v ∷ vs) e.0.0 rest.0, ap₂ (λ (v : Label) (vs : List Label). v ∷ vs) e.0.1 rest.1)
 
 module _ (is_steady : Bool) (all : List (Call Evaluating Label)) where
   -- between two calls: all calls are as said as soon as those that are still to come are, and nothing else was wrong before
@@ -116,7 +97,7 @@ module _ (is_steady : Bool) (all : List (Call Evaluating Label)) where
   outputs : (s t u : Evaluating) (rest : List (Call Evaluating Label)) (xs ys zs : List Label) → Thrice s t u (call_of eval_rules t (Output ys) ∷ rest) → Each Same xs ys zs →
       Thrice (eval_rules.output s xs) (eval_rules.output t ys) (eval_rules.output u zs) rest
   outputs s t u rest xs ys zs h each =
-      let same = same_all xs ys zs each in record {
+      let same = same_lists xs ys zs each in record {
         twice = ap (λ (x : Evaluating). eval_rules.output x xs) h.twice ∙ ap (λ (l : List Label). eval_rules.output t l) same.0;
         thrice = ap (λ (x : Evaluating). eval_rules.output x zs) h.thrice ∙ ap (λ (l : List Label). eval_rules.output t l) same.1;
         stands = called t (Output ys) rest (wrong_at_colours ys t.at t.evaluator.left) h.stands refl refl;
