@@ -13,6 +13,7 @@ use Rattle.mage_planner.specs.Outcome.{Done, NewFile}
 use Rattle.mage_planner.specs.Steps.{IsNotDesk, IsNoDeskFault}
 use Rattle.mage_planner.specs.Warned.{WarnsLine, IsOrMemory}
 use Rattle.mage_planner.specs.Answer.{Answers, AnswersRefusal, Works, ComesFrom, Leaves, Stops, OthersStay, HasRoom, TellsStores, StoresAreSound, IsComplete, files_of, streams_of, refusal_of}
+use Rattle.mage_planner.proofs.BegunLemmas.{nothing_begun}
 use Rattle.mage_planner.proofs.PerformLemmas.{back_faults, none_back, none_closed}
 
 -- the status of a refusal is none of Ok
@@ -55,6 +56,7 @@ stops outcome (refusal.Store worker) before after other breaks = record {
   stopped = breaks.stopped;
   ceases = breaks.ceases;
   closes = breaks.closes;
+  fronts = breaks.fronts;
 }
 stops outcome (refusal.Damaged worker damage) before after other damages = record {
   shelves = damages.shelves;
@@ -63,6 +65,7 @@ stops outcome (refusal.Damaged worker damage) before after other damages = recor
   stopped = damages.stopped;
   ceases = damages.ceases;
   closes = damages.closes;
+  fronts = damages.fronts;
 }
 stops outcome why before after other leaves = rw leaves (record {
   shelves = [];
@@ -71,6 +74,7 @@ stops outcome why before after other leaves = rw leaves (record {
   stopped = before;
   ceases = record { files = others_stay (files_of outcome) before.files; rest = refl };
   closes = none_closed (streams_of outcome) before;
+  fronts = nothing_begun outcome before before [] refl;
 })
 
 store_status : (why : Refusal) → IsNotDesk why → status_of why ≡ status.Store → ⊥
@@ -159,19 +163,18 @@ module _ (steady : Bool) (own warned : Refusal) (answer : Status) (is : answer �
         → between.warn_room ≡ before.warn_room
         → (IsNotDesk own → StoresAreSound before between)
         → IfSome files (λ files.
-        IsNoDeskFault (outcome files) → HasRoom before (outcome files) → TellsStores before (outcome files) → streams_of (outcome files) ≡ []
+        IsNoDeskFault (outcome files) → HasRoom before (outcome files) → TellsStores before (outcome files)
         → IsNotDesk own × (between.faults ≡ before.faults))
         → IfSome files (λ files.
         Works {T = Unit {0}} steady (outcome files) (Err own) before between)
         → IfSome files (λ files. IsNoDeskFault (outcome files) → HasRoom before (outcome files)
         → TellsStores before (outcome files)
-        → streams_of (outcome files) ≡ []
         → length (line_of refusal.Memory) ≤ before.warn_room
         → (after.faults ≡ before.faults) × StoresAreSound before after
         × (answer ≢ status.Desk) × (answer ≢ status.Store) × (answer ≢ status.Damaged))
     steady_files None outcome holds stays room sound is_not works = tt
-    steady_files (Some files) outcome holds stays room sound is_not works = λ found has tells none memory.
-        let calm = is_not found has tells none in
+    steady_files (Some files) outcome holds stays room sound is_not works = λ found has tells memory.
+        let calm = is_not found has tells in
         let not = calm.0 in
         let not_warned = warned_not_desk same not in
         let returned : after.returned ≡ between.returned = ap (λ (desk : DeskTold). desk.returned) warns.rest in (

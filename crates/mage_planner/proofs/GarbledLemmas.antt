@@ -22,7 +22,8 @@ use Rattle.mage_core.specs.declared.fault.RunFault.TheVariants as fault
 use Rattle.mage_lending.specs.Names.{worker_files}
 use Rattle.mage_lending.specs.Sinks.{with_all, with_empty, AreTaken, ClosesAll}
 use Rattle.mage_lending.specs.Stores.{AreBack, with_shelf, shelf_at}
-use Rattle.mage_solo.specs.Garbling.{Sunk, TookAll, AllTellTaken, AllTook, GarbleStops}
+use Rattle.mage_solo.specs.Fronts.{TookFront, AllTookFronts}
+use Rattle.mage_solo.specs.Garbling.{Sunk, TookAll, AllTellTaken, AllTook, NoneTook, GarbleStops}
 use Rattle.mage_solo.specs.Stores as solo
 use Rattle.mage_solo.specs.Stores.{AreMoved, HaveGrown}
 use Rattle.mage_source_runs.specs.Moves.{Moves}
@@ -33,12 +34,13 @@ use Rattle.mage_planner.specs.declared.refusal.Refusal.TheVariants as refusal
 use Rattle.mage_planner.specs.declared.work.Garbling.{Garbling}
 use Rattle.mage_planner.specs.Outcome.{Done, NewFile, stream_files}
 use Rattle.mage_planner.specs.Stores.{GivesBack, HaveMoved, IsRight}
-use Rattle.mage_planner.specs.Answer.{Does, BreaksOff, Ceases, Closes, OthersStay, StoresAreSound, with_files}
+use Rattle.mage_planner.specs.Answer.{Does, AreFronts, BreaksOff, Ceases, Closes, OthersStay, StoresAreSound, StreamsBegin, with_files}
 use Rattle.mage_planner.specs.Steps.{IsNoDeskFault}
 use Rattle.mage_planner.specs.Writing.{Interrupts, Performs}
 use Rattle.mage_planner.specs.Work.{CanBeGarbled, IsGarblingOf}
 use Rattle.mage_planner.specs.Ran.{HasOpened, ended_so}
-use Rattle.mage_planner.proofs.WritingLemmas.{performs_files}
+use Rattle.mage_planner.proofs.WritingLemmas.{none_stays, performs_files}
+use Rattle.mage_planner.proofs.BegunLemmas.{Held, taken_held, fronts_held, none_took_fronts, fronts_right}
 use Rattle.mage_planner.proofs.RunLemmas.{moves_of_parts, counts, given, as_many, has_broken, has_damaged, were_deceived, rose, broken_inside, damaged_inside, all_moved, sound_back, sound_used, sound_unused}
 use Rattle.mage_planner.proofs.RanLemmas.{moves_from, some_parts}
 use Rattle.mage_planner.proofs.StreamLemmas.{names_of, filed, filed_names, stream_names, begun_stay, files_untold, refilled, fronts_count, taken_count, opened_count, no_fault_at, filled_right, tell_taken, sinks_keep, sinks_raise}
@@ -48,7 +50,7 @@ use Rattle.mage_planner.proofs.StreamLemmas.{names_of, filed, filed_names, strea
 module _ (garbling : Garbling) (before opened back : DeskTold) (fresh shelves : List (List StoreTold)) (names : List (List ℕ)) (sinks : List SinkTold)
     (has : HasOpened before garbling fresh names sinks opened) (back_so : AreBack before.lent opened back shelves)
   where
-    back_after : back ≡ record before {
+    pub back_after : back ≡ record before {
       files = with_empty before.files names;
       lent = back.lent;
       returned = λ worker. with_shelf (before.returned worker) (shelf_at shelves worker);
@@ -57,7 +59,7 @@ module _ (garbling : Garbling) (before opened back : DeskTold) (fresh shelves : 
         back_so.rest
         ∙ ap (λ (desk : DeskTold). record desk { lent = back.lent; returned = λ worker. with_shelf (desk.returned worker) (shelf_at shelves worker) }) has.rest
 
-    back_between : AreBack before.lent before (record before { lent = back.lent; returned = back.returned }) shelves
+    pub back_between : AreBack before.lent before (record before { lent = back.lent; returned = back.returned }) shelves
     back_between = record {
       lent = back_so.lent;
       rest = ap (λ (returned : ℕ → Returned). record before { lent = back.lent; returned = returned }) (ap (λ (desk : DeskTold). desk.returned) back_after);
@@ -92,7 +94,7 @@ module _ (garbling : Garbling) (before opened back : DeskTold) (fresh shelves : 
 -- ---- what a garbling is to do
 
 module _ (garbling : Garbling) (done : Done) (is : IsGarblingOf garbling done) where
-  source : RunsSource is.loaded is.plan
+  pub source : RunsSource is.loaded is.plan
   source = sources_can_be_run is.limits is.text is.loaded is.plan is.in_range is.loads is.planned
 
   pub garbled_moves : done.moves ≡ moves_of_parts garbling.parts.items
@@ -150,6 +152,7 @@ module _ (garbling : Garbling) (done : Done) (is : IsGarblingOf garbling done) w
   module _ (before between after : DeskTold) (shelves : List (List StoreTold)) (few : length shelves ≤ length done.moves) (gives : GivesBack shelves before between)
       (begun : List NewFile) (rest : List (List ℕ)) (named : names_of done.streams ≡ names_of begun ++ rest)
       (left : after ≡ record between { files = with_files between.files begun; faults = after.faults }) (rises : between.faults ≤ after.faults)
+      (fronts : StreamsBegin (Ok done) before shelves after)
     where
       files_stay : OthersStay (done.streams ++ done.files) between.files after.files
       files_stay =
@@ -186,6 +189,7 @@ module _ (garbling : Garbling) (done : Done) (is : IsGarblingOf garbling done) w
         stopped = ceased;
         ceases = ceases;
         closes = closes can;
+        fronts = fronts;
       }
 
       pub fails_garbling : Rose between.faults after.faults → Interrupts done refusal.Desk before after
@@ -196,6 +200,7 @@ module _ (garbling : Garbling) (done : Done) (is : IsGarblingOf garbling done) w
         text = [];
         right = inl (sym nothing_said);
         breaks = breaks rose;
+        fronts = fronts;
       }
 
       returned_so : after.returned ≡ between.returned
@@ -258,15 +263,22 @@ module _ (garbling : Garbling) (done : Done) (is : IsGarblingOf garbling done) w
       record Closed : Type 0 where
         contents : List (List ℕ)
         long : length contents ≡ length others
+        held : Held others contents
         rest : after ≡ record back { files = with_all back.files names contents; faults = after.faults }
 
       closed_so : {E : Type 0} (r : Result (Unit {0}) E) → ClosesAll back after names others r → Closed
       closed_so (Ok x) closed = record {
         contents = closed.0;
         long = taken_count others closed.0 closed.1;
+        held = taken_held others closed.0 closed.1;
         rest = closed.2 ∙ ap (λ (n : ℕ). record back { files = with_all back.files names closed.0; faults = n }) (sym (ap (λ (desk : DeskTold). desk.faults) closed.2));
       }
-      closed_so (Err e) closed = record { contents = closed.0; long = fronts_count others closed.0 closed.1; rest = closed.2 }
+      closed_so (Err e) closed = record {
+        contents = closed.0;
+        long = fronts_count others closed.0 closed.1;
+        held = fronts_held others closed.0 closed.1;
+        rest = closed.2;
+      }
 
       -- a sink that failed raises the count
       rose_sink : {E : Type 0} (r : Result (Unit {0}) E) → ClosesAll back after names others r → (w : ℕ) → (sink : Sunk sinks others w) → 1 ≤ sink.new.faults → Rose back.faults after.faults
@@ -281,6 +293,12 @@ module _ (garbling : Garbling) (done : Done) (is : IsGarblingOf garbling done) w
 
       rose_closed : {E : Type 0} (e : E) → ClosesAll {T = Unit {0}} back after names others (Err e) → Rose back.faults after.faults
       rose_closed e closed = sinks_keep back.faults after.faults others closed.3
+
+      -- what is known of the streams of a run that was stopped
+      abbrev AreBegun : Type 0
+      AreBegun = (plan : MemProgram) (count : ℕ) (emitted : List Emitted) → IsMemProgram plan → parts ≡ parts_of plan → Carries count emitted plan → CanRun count emitted
+          → AllTellTaken sinks
+          → AllTookFronts sinks others (garbled_stream (program_of count emitted) garbling.seed (list_at (lists_of garbling.garbler.items))) ⊎ solo.WereDeceived parts fresh shelves
 
       -- all that is left of a run that was stopped
       abbrev Left : Refusal → Type 0
@@ -299,17 +317,53 @@ module _ (garbling : Garbling) (done : Done) (is : IsGarblingOf garbling done) w
         rises_so : between.faults ≤ after.faults
         rises_so = omega (arith, rises, faults_back)
 
-        stops_so : Left refusal.Memory
-        stops_so = stops_garbling before between after shelves few gives begun [] first_named left_so rises_so can
+        -- no other file changed
+        others_stay : (written : List NewFile) → with_files before.files written ≡ with_files before.files begun → OthersStay done.files (with_files before.files written) after.files
+        others_stay written same =
+            subst (λ (f : Option Files). OthersStay done.files (with_files before.files written) f) (same ∙ sym (ap (λ (desk : DeskTold). desk.files) left_so))
+            (none_stays done.files (with_files before.files written))
 
-        fails_so : Rose back.faults after.faults → Left refusal.Desk
-        fails_so rose =
+        -- each file is a front of its stream
+        fronts_so : AreBegun → StreamsBegin (Ok done) before shelves after
+        fronts_so garbled = by_told before.files refl where
+          by_told : (files : Option Files) → before.files ≡ files → StreamsBegin (Ok done) before shelves after
+          by_told None told = inl (record {
+            begun = [];
+            fronts = tt;
+            rest = others_stay [] (told ∙ sym (files_untold begun) ∙ sym (ap (λ (f : Option Files). with_files f begun) told));
+          })
+          by_told (Some files) told =
+              by_streams (garbled is.plan source.count source.emitted source.accepted.fields is.parts source.carries source.runs
+              (tell_taken before files garbling.rooms.items sinks told has.handed))
+            where
+              by_streams : AllTookFronts sinks others (garbled_stream (program_of source.count source.emitted) garbling.seed (list_at (lists_of garbling.garbler.items)))
+                  ⊎ solo.WereDeceived parts fresh shelves → StreamsBegin (Ok done) before shelves after
+              by_streams (inl took) = inl (record {
+                begun = begun;
+                fronts = subst (λ (names : List (List ℕ)). AreFronts (filed names closed.contents) done.streams) (sym has.named)
+                    (subst (λ (streams : List NewFile). AreFronts (filed (worker_files garbling.stream.now 0 (length garbling.rooms.items)) closed.contents) streams) (sym streams_are)
+                    (fronts_right before files garbling.stream.now is.loaded.program garbling.seed (lists_of garbling.garbler.items) 0 garbling.rooms.items sinks others closed.contents
+                    told has.handed as_many_sinks
+                    (λ w sink.
+                    let at : w ≡ 0 + w = omega arith in
+                    subst (λ (n : ℕ). TookFront sink.old sink.new (garbled_stream is.loaded.program garbling.seed (list_at (lists_of garbling.garbler.items)) n)) at
+                    (subst (λ (p : Program). TookFront sink.old sink.new (garbled_stream p garbling.seed (list_at (lists_of garbling.garbler.items)) w)) source.program_is (took w sink)))
+                    closed.held));
+                rest = others_stay begun refl;
+              })
+              by_streams (inr deceived) = inr (were_deceived 16 before between parts fresh shelves has.stores shape grown between_back deceived)
+
+        stops_so : AreBegun → Left refusal.Memory
+        stops_so garbled = stops_garbling before between after shelves few gives begun [] first_named left_so rises_so (fronts_so garbled) can
+
+        fails_so : AreBegun → Rose back.faults after.faults → Left refusal.Desk
+        fails_so garbled rose =
             let same = faults_back in
-            fails_garbling before between after shelves few gives begun [] first_named left_so rises_so (subst (λ (n : ℕ). Rose n after.faults) same rose)
+            fails_garbling before between after shelves few gives begun [] first_named left_so rises_so (fronts_so garbled) (subst (λ (n : ℕ). Rose n after.faults) same rose)
 
-        breaks_so : (w : ℕ) → solo.HasBroken parts fresh shelves w → Left (refusal.Store w)
+        breaks_so : AreBegun → (w : ℕ) → solo.HasBroken parts fresh shelves w → Left (refusal.Store w)
         unfolding stops_so stops_garbling
-        breaks_so w broken =
+        breaks_so garbled w broken =
             let found = has_broken 16 before between parts fresh shelves has.stores shape grown between_back w broken in
             let inside = broken_inside 16 before between parts fresh shelves has.stores shape grown between_back w found in (
               omega (arith, inside, garbled_count),
@@ -320,15 +374,16 @@ module _ (garbling : Garbling) (done : Done) (is : IsGarblingOf garbling done) w
                 broken = found;
                 rose = subst (λ (returned : ℕ → Returned). Rose (before.returned w).faults (returned w).faults) (sym (ap (λ (desk : DeskTold). desk.returned) left_so))
                     (rose 16 before between parts fresh shelves has.stores shape grown between_back w found);
-                stopped = stops_so.stopped;
-                ceases = stops_so.ceases;
-                closes = stops_so.closes;
+                stopped = (stops_so garbled).stopped;
+                ceases = (stops_so garbled).ceases;
+                closes = (stops_so garbled).closes;
+                fronts = fronts_so garbled;
               },
             )
 
-        damages_so : (w : ℕ) (damage : Damage) → solo.HasDamaged parts fresh shelves w damage → Left (refusal.Damaged w damage)
+        damages_so : AreBegun → (w : ℕ) (damage : Damage) → solo.HasDamaged parts fresh shelves w damage → Left (refusal.Damaged w damage)
         unfolding stops_so stops_garbling
-        damages_so w damage damaged =
+        damages_so garbled w damage damaged =
             let found = has_damaged 16 before between parts fresh shelves has.stores shape grown between_back w damage damaged in
             let inside = damaged_inside 16 before between parts fresh shelves has.stores shape grown between_back w damage found in (
               omega (arith, inside, garbled_count),
@@ -337,9 +392,10 @@ module _ (garbling : Garbling) (done : Done) (is : IsGarblingOf garbling done) w
                 between = between;
                 returns = record { few = few; given = gives };
                 damaged = found;
-                stopped = stops_so.stopped;
-                ceases = stops_so.ceases;
-                closes = stops_so.closes;
+                stopped = (stops_so garbled).stopped;
+                ceases = (stops_so garbled).ceases;
+                closes = (stops_so garbled).closes;
+                fronts = fronts_so garbled;
               },
             )
 
@@ -356,7 +412,7 @@ module _ (garbling : Garbling) (done : Done) (is : IsGarblingOf garbling done) w
           (moved : AreMoved parts fresh shelves) (garbled : AreGarbled)
         where
           abbrev closed_whole : Closed
-          closed_whole = record { contents = contents; long = taken_count others contents taken; rest = rest }
+          closed_whole = record { contents = contents; long = taken_count others contents taken; held = taken_held others contents taken; rest = rest }
 
           calm : after.faults ≡ between.faults
           calm = quiet ∙ faults_back
@@ -423,17 +479,19 @@ module _ (garbling : Garbling) (done : Done) (is : IsGarblingOf garbling done) w
 
       pub garbling_ends : {E : Type 0} (stopped : Option RunFault) (r : Result (Unit {0}) E) → ClosesAll back after names others r
           → (stopped ≡ None → OnOk r (after.faults ≡ back.faults)) → (stopped ≡ None → AreMoved parts fresh shelves) → IfSome stopped (GarbleStops parts fresh shelves sinks others)
-          → (stopped ≡ None → AreGarbled) → Performs done (ended_so {T = Unit {0}} stopped r) before after
-      garbling_ends None (Ok x) closed quiet moved stops garbled =
+          → (stopped ≡ None → AreGarbled) → ((stopped ≡ Some fault.Memory → ⊥) → AreBegun) → (stopped ≡ Some fault.Memory → NoneTook sinks others) → Performs done (ended_so {T = Unit {0}} stopped r) before after
+      garbling_ends None (Ok x) closed quiet moved stops garbled begun untouched =
           does_so closed.0 closed.1
           (closed.2 ∙ ap (λ (n : ℕ). record back { files = with_all back.files names closed.0; faults = n }) (sym (ap (λ (desk : DeskTold). desk.faults) closed.2)))
           (quiet refl) (moved refl) (garbled refl)
-      garbling_ends None (Err e) closed quiet moved stops garbled = fails_so (closed_so (Err e) closed) (rose_closed e closed)
-      garbling_ends (Some (fault.Store w)) r closed quiet moved stops garbled = breaks_so (closed_so r closed) w stops
-      garbling_ends (Some (fault.Damaged w damage)) r closed quiet moved stops garbled = damages_so (closed_so r closed) w damage stops
-      garbling_ends (Some (fault.Driver w f)) r closed quiet moved stops garbled =
+      garbling_ends None (Err e) closed quiet moved stops garbled begun untouched = fails_so (closed_so (Err e) closed) (begun (λ memory. cc)) (rose_closed e closed)
+      garbling_ends (Some (fault.Store w)) r closed quiet moved stops garbled begun untouched = breaks_so (closed_so r closed) (begun (λ memory. cc)) w stops
+      garbling_ends (Some (fault.Damaged w damage)) r closed quiet moved stops garbled begun untouched =
+          damages_so (closed_so r closed) (begun (λ memory. cc)) w damage stops
+      garbling_ends (Some (fault.Driver w f)) r closed quiet moved stops garbled begun untouched =
           let sink = (stops.1).0 in
           let none = no_fault_at before garbling.rooms.items sinks w sink.old has.handed sink.old_so in
           let rose = (stops.1).2 in
-          fails_so (closed_so r closed) (rose_sink r closed w sink (omega (arith, none, rose)))
-      garbling_ends (Some fault.Memory) r closed quiet moved stops garbled = stops_so (closed_so r closed)
+          fails_so (closed_so r closed) (begun (λ memory. cc)) (rose_sink r closed w sink (omega (arith, none, rose)))
+      garbling_ends (Some fault.Memory) r closed quiet moved stops garbled begun untouched =
+          stops_so (closed_so r closed) (λ plan count emitted fine same carries runs told. inl (none_took_fronts sinks others _ told (untouched refl)))

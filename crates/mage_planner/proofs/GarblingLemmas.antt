@@ -1,5 +1,5 @@
 -- Streams that weren't opened, and stores that were lent for nothing.
-use Rattle.std.proofs.Common.{◌≡◌, ◌≤◌, ◌+◌, ◌-◌, ◌++◌, ℕ, zero, suc, List, [], ◌∷◌, length, Option, Some, None, Err, refl, sym, ap, ap₂, subst, ◌∙◌, arith}
+use Rattle.std.proofs.Common.{◌≡◌, ◌≤◌, ◌+◌, ◌-◌, ◌++◌, ℕ, zero, suc, inl, List, [], ◌∷◌, length, Option, Some, None, Ok, Err, refl, sym, ap, ap₂, subst, ◌∙◌, arith}
 use Rattle.std.specs.Prelude.{IfSome}
 use Rattle.std.specs.Option.{option_map}
 use Rattle.std.proofs.lemmas.List.{append-nil}
@@ -9,6 +9,7 @@ use Rattle.mage_base.specs.Desk.{DeskTold, Files, Returned}
 use Rattle.mage_base.specs.Faults.{Rose}
 use Rattle.mage_base.specs.Sink.{SinkTold}
 use Rattle.mage_base.specs.Store.{StoreTold, Transfer}
+use Rattle.mage_texts.specs.Lists.{lists_of}
 use Rattle.mage_verify.specs.Parts.{WorkerPart}
 use Rattle.mage_core.specs.Results.{Grew}
 use Rattle.mage_lending.specs.Names.{worker_files}
@@ -17,15 +18,17 @@ use Rattle.mage_lending.specs.Stores.{AreBack, own_stores, with_shelf, shelf_at}
 use Rattle.mage_solo.specs.Stores.{HaveGrown}
 use Rattle.mage_planner.specs.declared.refusal.Refusal.TheVariants as refusal
 use Rattle.mage_planner.specs.declared.work.Garbling.{Garbling}
-use Rattle.mage_planner.specs.Outcome.{Done}
+use Rattle.mage_planner.specs.Outcome.{Done, NewFile}
 use Rattle.mage_planner.specs.Stores.{GivesBack}
-use Rattle.mage_planner.specs.Answer.{StoresAreSound, with_files}
+use Rattle.mage_planner.specs.Answer.{AreFronts, OthersStay, StoresAreSound, StreamsBegin, with_files}
 use Rattle.mage_planner.specs.Writing.{Interrupts}
 use Rattle.mage_planner.specs.Work.{CanBeGarbled, IsGarblingOf}
 use Rattle.mage_planner.specs.Ran.{HasLent, HasOpened, unopened_by}
 use Rattle.mage_planner.proofs.RunLemmas.{given, as_many, sound_back, sound_unused}
 use Rattle.mage_planner.proofs.StreamLemmas.{names_of, nothing_in, nothing_named, emptied_is, names_split, opened_count}
-use Rattle.mage_planner.proofs.GarbledLemmas.{garbled_count, streams_named, stops_garbling, fails_garbling}
+use Rattle.mage_planner.proofs.WritingLemmas.{none_stays}
+use Rattle.mage_planner.proofs.BegunLemmas.{empty_fronts}
+use Rattle.mage_planner.proofs.GarbledLemmas.{garbled_count, streams_are, streams_named, stops_garbling, fails_garbling}
 
 -- ---- opened streams
 
@@ -125,7 +128,7 @@ module _ (garbling : Garbling) (before lent opened back : DeskTold) (fresh : Lis
         (emptied_is before.files names) (sym (ap (λ (desk : DeskTold). desk.returned) back_is))
         ∙ ap (λ (n : ℕ). record between { files = with_files before.files (nothing_in names); faults = n }) (sym (ap (λ (desk : DeskTold). desk.faults) back_is))
 
-    faults_back : back.faults ≡ opened.faults
+    pub faults_back : back.faults ≡ opened.faults
     faults_back = ap (λ (desk : DeskTold). desk.faults) back_is
 
     module _ (done : Done) (is : IsGarblingOf garbling done) where
@@ -141,18 +144,28 @@ module _ (garbling : Garbling) (before lent opened back : DeskTold) (fresh : Lis
           ∙ names_split garbling.stream.now 0 count (length garbling.rooms.items - count)
           ∙ ap (λ (l : List (List ℕ)). l ++ worker_files garbling.stream.now (0 + count) (length garbling.rooms.items - count)) (sym (nothing_named names))
 
+      -- each that was opened is empty
+      fronts : StreamsBegin (Ok done) before fresh back
+      fronts = inl (record {
+        begun = nothing_in names;
+        fronts = subst (λ (streams : List NewFile). AreFronts (nothing_in names) streams) (sym (streams_are garbling done is))
+            (empty_fronts garbling.stream.now is.loaded.program garbling.seed (lists_of garbling.garbler.items) 0 count (length garbling.rooms.items) few);
+        rest = subst (λ (f : Option Files). OthersStay done.files (with_files before.files (nothing_in names)) f) (sym (ap (λ (desk : DeskTold). desk.files) left))
+            (none_stays done.files (with_files before.files (nothing_in names)));
+      })
+
       lent_faults : lent.faults ≡ before.faults
       lent_faults = ap (λ (desk : DeskTold). desk.faults) has.rest
 
       unopened_stops : CanBeGarbled garbling → lent.faults ≤ opened.faults → Interrupts done refusal.Memory before back
       unopened_stops can rises =
           stops_garbling garbling done is before between back fresh many gives (nothing_in names) (worker_files garbling.stream.now (0 + count) (length garbling.rooms.items - count))
-          first_named left (omega (arith, rises, lent_faults, faults_back)) can
+          first_named left (omega (arith, rises, lent_faults, faults_back)) fronts can
 
       unopened_fails : lent.faults ≤ opened.faults → Rose lent.faults opened.faults → Interrupts done refusal.Desk before back
       unopened_fails rises rose =
           fails_garbling garbling done is before between back fresh many gives (nothing_in names) (worker_files garbling.stream.now (0 + count) (length garbling.rooms.items - count))
-          first_named left (omega (arith, rises, lent_faults, faults_back))
+          first_named left (omega (arith, rises, lent_faults, faults_back)) fronts
           (subst (λ (n : ℕ). Rose n back.faults) lent_faults (subst (λ (n : ℕ). Rose lent.faults n) (sym faults_back) rose))
 
       -- whatever kept them from being opened

@@ -7,12 +7,13 @@ use Rattle.mage_base.specs.Store.{StoreTold}
 use Rattle.mage_planner.specs.declared.refusal.Refusal.{Refusal}
 use Rattle.mage_planner.specs.declared.refusal.Refusal.TheVariants as refusal
 use Rattle.mage_planner.specs.Outcome.{Done, NewFile, ending_file, generates}
-use Rattle.mage_planner.specs.Answer.{Finishes, BreaksOff, Ceases, OthersStay, Returns, StoresAreSound, with_files}
+use Rattle.mage_planner.specs.Answer.{Finishes, BreaksOff, Ceases, Closes, OthersStay, StreamsBegin, Returns, StoresAreSound, with_files}
 use Rattle.mage_planner.specs.Ran.{Ran}
 use Rattle.mage_planner.specs.Stores.{AreOfDesk, GivesBack, HasDamaged, IsRight, WereDeceived}
 use Rattle.mage_planner.specs.Writing.{Performs, Writes}
 use Rattle.mage_planner.proofs.PerformLemmas.{all_stay, back_files, none_back, none_closed, unnamed, unwritten}
 use Rattle.mage_planner.proofs.RanLemmas.{all_sound, still_sound}
+use Rattle.mage_planner.proofs.BegunLemmas.{quiet_begun}
 use Rattle.mage_planner.proofs.WritingLemmas.{SoFar, first_stay, one_more_file, stopped_file}
 
 -- ---- behind a summary
@@ -163,6 +164,12 @@ module _ (files : List NewFile) (before : DeskTold) where
   ceases_before shelves between after given ceases = record { files = stay_before shelves between after.files given ceases.files; rest = ceases.rest }
 
   module _ (summary : List ℕ) (run : Done) (after : DeskTold) where
+    stopped_begun : (shelves : List (List StoreTold)) (between stopped : DeskTold) → GivesBack shelves wrote between → Ceases [] between stopped → Closes [] stopped after
+        → StreamsBegin (Ok (generates files summary run)) before shelves after
+    stopped_begun shelves between stopped given ceases closes =
+        quiet_begun (generates files summary run) before after shelves refl
+        (subst (λ (f : Option Files). OthersStay files before.files f) (sym (ap (λ (desk : DeskTold). desk.files) closes.rest)) (stay_before shelves between stopped.files given ceases.files))
+
     performs_so : (r : Result (Unit {0}) Refusal) → Performs (generates [] summary run) r wrote after → Performs (generates files summary run) r before after
     performs_so (Ok x) does =
         let filled = unnamed does.filled does.named in
@@ -186,6 +193,8 @@ module _ (files : List NewFile) (before : DeskTold) where
       text = fails.text;
       right = right_before fails.shelves (summary ++ run.said) fails.text fails.right;
       breaks = breaks_before fails.text fails.shelves fails.between after fails.returns.given fails.breaks;
+      fronts = quiet_begun (generates files summary run) before after fails.shelves refl
+          (stay_before fails.shelves fails.between after.files fails.returns.given fails.breaks.files);
     }
     performs_so (Err refusal.Memory) stops = record {
       shelves = stops.shelves;
@@ -194,6 +203,7 @@ module _ (files : List NewFile) (before : DeskTold) where
       stopped = stops.stopped;
       ceases = ceases_before stops.shelves stops.between stops.stopped stops.returns.given stops.ceases;
       closes = stops.closes;
+      fronts = stopped_begun stops.shelves stops.between stops.stopped stops.returns.given stops.ceases stops.closes;
     }
     performs_so (Err (refusal.Store worker)) breaks = (
       breaks.0,
@@ -206,6 +216,7 @@ module _ (files : List NewFile) (before : DeskTold) where
         stopped = breaks.1.stopped;
         ceases = ceases_before breaks.1.shelves breaks.1.between breaks.1.stopped breaks.1.returns.given breaks.1.ceases;
         closes = breaks.1.closes;
+        fronts = stopped_begun breaks.1.shelves breaks.1.between breaks.1.stopped breaks.1.returns.given breaks.1.ceases breaks.1.closes;
       },
     )
     performs_so (Err (refusal.Damaged worker damage)) damages = (
@@ -218,6 +229,7 @@ module _ (files : List NewFile) (before : DeskTold) where
         stopped = damages.1.stopped;
         ceases = ceases_before damages.1.shelves damages.1.between damages.1.stopped damages.1.returns.given damages.1.ceases;
         closes = damages.1.closes;
+        fronts = stopped_begun damages.1.shelves damages.1.between damages.1.stopped damages.1.returns.given damages.1.ceases damages.1.closes;
       },
     )
     performs_so (Err other) none = absurd none
@@ -238,6 +250,7 @@ not_written files summary run refusal.Desk before after wrote = record {
   text = summary ++ run.said;
   right = inl refl;
   breaks = unwritten files (summary ++ run.said) refusal.Desk before after wrote;
+  fronts = quiet_begun (generates files summary run) before after [] refl wrote.files;
 }
 not_written files summary run refusal.Memory before after wrote = record {
   shelves = [];
@@ -246,6 +259,7 @@ not_written files summary run refusal.Memory before after wrote = record {
   stopped = after;
   ceases = unwritten files [] refusal.Memory before after wrote;
   closes = none_closed [] after;
+  fronts = quiet_begun (generates files summary run) before after [] refl wrote.files;
 }
 not_written files summary run other before after wrote = absurd wrote
 

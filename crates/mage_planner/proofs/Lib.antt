@@ -3,6 +3,7 @@ pub mod ProgramLemmas
 pub mod AnswerLemmas
 pub mod WordsLemmas
 pub mod WritingLemmas
+mod BegunLemmas
 mod PerformLemmas
 mod UpgradeLemmas
 mod CarriedLemmas
@@ -13,6 +14,7 @@ mod GarbleLemmas
 mod StreamLemmas
 mod GarbledLemmas
 mod GarblingLemmas
+mod SteadyLemmas
 mod GeneratedLemmas
 mod GeneratingLemmas
 mod GeneratedFiles

@@ -1,5 +1,5 @@
 -- What is done of what a command comes to.
-use Rattle.std.proofs.Common.{◌≡◌, ◌≢◌, ◌≤◌, inl, ℕ, List, [], length, map, Bool, Option, Some, None, Result, Ok, Err, refl, sym, ap, ap₂, subst, ◌∙◌, ◌∷◌, ◌++◌, take, IsTrue, arith}
+use Rattle.std.proofs.Common.{◌≡◌, ◌≢◌, ◌≤◌, inl, ℕ, List, [], length, map, Bool, Option, Some, None, Result, Ok, Err, refl, sym, ap, ap₂, subst, ◌∙◌, ◌∷◌, ◌++◌, take, IsTrue, IsSome, arith}
 use Rattle.std.proofs.Math.Path.{fun_ext}
 use Rattle.std.specs.Option.{IfSome}
 use Rattle.mage_base.specs.Desk.{DeskTold, Files, Returned, StoreId}
@@ -15,6 +15,7 @@ use Rattle.mage_planner.specs.Warned.{Grows}
 use Rattle.mage_planner.specs.Writing.{Finished, Performs, Writes}
 use Rattle.mage_planner.proofs.WritingLemmas.{one_stays, none_stays, grows_front}
 use Rattle.mage_planner.proofs.WordsLemmas.{IsBare, IsOfStore}
+use Rattle.mage_planner.proofs.BegunLemmas.{nothing_begun, quiet_begun}
 
 -- where nothing is written all files stay
 pub all_stay : (before after : Option Files) → OthersStay [] before after → after ≡ before
@@ -221,11 +222,10 @@ module _ (before after : DeskTold) (Is : Done → Type 0) where
 
   pub steady_told : (files : Option Files) (outcome : Files → Result Done Refusal) (r : Result (Unit {0}) Refusal) →
       IfSome files (λ told. (done : Done) × Is done × (outcome told ≡ Ok done)) →
-      ((done : Done) → Is done → (done.moves ≢ [] → IsTrue before.stores_tell_pages) → done.streams ≡ [] → length done.said ≤ before.room → IsNoDeskFault r × (after.faults ≡ before.faults)) →
-      IfSome files (λ told. IsNoDeskFault (outcome told) → HasRoom before (outcome told) → TellsStores before (outcome told) → streams_of (outcome told) ≡ []
-      → IsNoDeskFault r × (after.faults ≡ before.faults))
+      ((done : Done) → Is done → IsSome files → (done.moves ≢ [] → IsTrue before.stores_tell_pages) → length done.said ≤ before.room → IsNoDeskFault r × (after.faults ≡ before.faults)) →
+      IfSome files (λ told. IsNoDeskFault (outcome told) → HasRoom before (outcome told) → TellsStores before (outcome told) → IsNoDeskFault r × (after.faults ≡ before.faults))
   steady_told None outcome r comes steady = tt
-  steady_told (Some told) outcome r comes steady = λ found has tells none. steady comes.0 comes.1 (rw comes.2 at tells) (rw comes.2 at none) (rw comes.2 at has)
+  steady_told (Some told) outcome r comes steady = λ found has tells. steady comes.0 comes.1 refl (rw comes.2 at tells) (rw comes.2 at has)
 
 -- what is done without a store
 pub without_stores : (text : List ℕ) (files : List NewFile) (r : Result (Unit {0}) Refusal) (before after : DeskTold) →
@@ -249,6 +249,7 @@ without_stores text files (Err refusal.Desk) before after breaks = record {
   text = text;
   right = inl refl;
   breaks = breaks;
+  fronts = quiet_begun (says_and_writes text files) before after [] refl breaks.files;
 }
 without_stores text files (Err refusal.Memory) before after ceases = record {
   shelves = [];
@@ -257,6 +258,7 @@ without_stores text files (Err refusal.Memory) before after ceases = record {
   stopped = after;
   ceases = ceases;
   closes = none_closed [] after;
+  fronts = quiet_begun (says_and_writes text files) before after [] refl ceases.files;
 }
 without_stores text files (Err other) before after none = absurd none
 
@@ -314,6 +316,7 @@ refused steady outcome refusal.Desk before after none refuses counted rest = (
           ∙ ap₂ (λ (s : Option (List ℕ)) (n : ℕ). record before { files = after.files; said = s; faults = after.faults; room = n })
           (sym (ap (λ (desk : DeskTold). desk.said) rest)) (sym (ap (λ (desk : DeskTold). desk.room) rest));
     };
+    fronts = nothing_begun outcome before after [] (ap (λ (desk : DeskTold). desk.files) rest);
   },
 )
 refused steady outcome refusal.Memory before after none refuses counted rest =
@@ -326,6 +329,7 @@ refused steady outcome refusal.Memory before after none refuses counted rest =
         stopped = after;
         ceases = rw same (record { files = none_stays (files_of outcome) before.files; rest = refl });
         closes = none_closed (streams_of outcome) after;
+        fronts = nothing_begun outcome before after [] (ap (λ (desk : DeskTold). desk.files) rest);
       },
     )
 refused steady outcome (refusal.Store worker) before after none refuses counted rest = absurd (none tt refuses)

@@ -53,13 +53,14 @@ use Rattle.mage_planner.specs.declared.refusal.Refusal.TheVariants as refusal
 use Rattle.mage_planner.specs.declared.work.Running.{Running}
 use Rattle.mage_planner.specs.Outcome.{Done, NewFile, said_of}
 use Rattle.mage_planner.specs.Stores.{AreOfDesk, GivesBack, HaveMoved, IsRight}
-use Rattle.mage_planner.specs.Answer.{Finishes, BreaksOff, Ceases, StoresAreSound, OthersStay}
+use Rattle.mage_planner.specs.Answer.{Finishes, BreaksOff, Ceases, StoresAreSound, StreamsBegin, OthersStay}
 use Rattle.mage_planner.specs.Warned.{Grows}
 use Rattle.mage_planner.specs.Writing.{Finished, Interrupts, Performs}
 use Rattle.mage_planner.specs.Steps.{IsNotDesk}
 use Rattle.mage_planner.specs.Work.{CanBeRun, IsRunOf}
 use Rattle.mage_planner.specs.Ran.{orders_of, HasLent, LendsSo, EndsSo, Halted, IsUnbroken, Ran, RanSo}
-use Rattle.mage_planner.proofs.PerformLemmas.{moved_count, none_back, none_closed}
+use Rattle.mage_planner.proofs.PerformLemmas.{all_stay, back_files, moved_count, none_back, none_closed}
+use Rattle.mage_planner.proofs.BegunLemmas.{nothing_begun}
 use Rattle.mage_planner.proofs.WritingLemmas.{both_all, grows_front, none_stays}
 use Rattle.mage_planner.proofs.RunLemmas.{moves_of_parts, one_all, sound_back, sound_used, sound_unused, given, as_many, has_broken, has_damaged, were_deceived, rose, broken_inside, damaged_inside, all_moved}
 
@@ -391,6 +392,11 @@ module _ (between after : DeskTold) (rest : after ≡ record between { faults = 
         (sym (ap (λ (desk : DeskTold). desk.said) rest)) (sym (ap (λ (desk : DeskTold). desk.room) rest));
   }
 
+-- no stream was begun
+halted_begun : (done : Done) (why : Refusal) (before after : DeskTold) (h : Halted (length done.moves) why before after) → StreamsBegin (Ok done) before h.shelves after
+halted_begun done why before after h =
+    nothing_begun (Ok done) before after h.shelves (ap (λ (desk : DeskTold). desk.files) h.rest ∙ back_files h.shelves before h.between h.returns.given)
+
 pub halted : (done : Done) (why : Refusal) (before after : DeskTold) → Halted (length done.moves) why before after → Interrupts done why before after
 halted done refusal.Desk before after h = record {
   shelves = h.shelves;
@@ -399,6 +405,7 @@ halted done refusal.Desk before after h = record {
   text = done.said;
   right = inl refl;
   breaks = none_breaks h.between after h.rest done.said (done.streams ++ done.files) h.faults.0 h.faults.1;
+  fronts = halted_begun done refusal.Desk before after h;
 }
 halted done refusal.Memory before after h = record {
   shelves = h.shelves;
@@ -407,6 +414,7 @@ halted done refusal.Memory before after h = record {
   stopped = after;
   ceases = none_ceases h.between after h.rest (done.streams ++ done.files) h.faults;
   closes = none_closed done.streams after;
+  fronts = halted_begun done refusal.Memory before after h;
 }
 halted done (refusal.Store worker) before after h = (
   h.cause.0,
@@ -419,6 +427,7 @@ halted done (refusal.Store worker) before after h = (
     stopped = after;
     ceases = none_ceases h.between after h.rest (done.streams ++ done.files) h.faults;
     closes = none_closed done.streams after;
+    fronts = halted_begun done (refusal.Store worker) before after h;
   },
 )
 halted done (refusal.Damaged worker damage) before after h = (
@@ -431,6 +440,7 @@ halted done (refusal.Damaged worker damage) before after h = (
     stopped = after;
     ceases = none_ceases h.between after h.rest (done.streams ++ done.files) h.faults;
     closes = none_closed done.streams after;
+    fronts = halted_begun done (refusal.Damaged worker damage) before after h;
   },
 )
 halted done why before after h = absurd h.cause
@@ -460,6 +470,7 @@ ran_said done text (Err refusal.Desk) before between after none ran breaks =
       text = text;
       right = ran.right;
       breaks = subst (λ (files : List NewFile). BreaksOff text files between after) (sym none) breaks;
+      fronts = nothing_begun (Ok done) before after ran.shelves (all_stay between.files after.files breaks.files ∙ back_files ran.shelves before between ran.given);
     }
 ran_said done text (Err refusal.Memory) before between after none ran ceases =
     let many = moved_count done.moves ran.shelves ran.moved in
@@ -470,6 +481,7 @@ ran_said done text (Err refusal.Memory) before between after none ran ceases =
       stopped = after;
       ceases = subst (λ (files : List NewFile). Ceases files between after) (sym none) ceases;
       closes = none_closed done.streams after;
+      fronts = nothing_begun (Ok done) before after ran.shelves (all_stay between.files after.files ceases.files ∙ back_files ran.shelves before between ran.given);
     }
 ran_said done text (Err other) before between after none ran none_too = absurd none_too
 

@@ -1,9 +1,10 @@
 -- What a call answers, against what its command comes to.
-use Rattle.std.specs.Prelude.{◌≡◌, ◌≢◌, ◌≤◌, ◌<◌, ◌+◌, ℕ, List, [], ◌∷◌, ◌++◌, length, map, take, Bool, false, IsTrue, All, Option, Some, None, IsSomeAnd, Result, Ok, Err, IsOkAnd}
+use Rattle.std.specs.Prelude.{◌≡◌, ◌≢◌, ◌≤◌, ◌<◌, ◌+◌, ◌⊎◌, ℕ, List, [], ◌∷◌, ◌++◌, length, map, take, Bool, false, IsTrue, All, Option, Some, None, IsSomeAnd, Result, Ok, Err, IsOkAnd}
 use Rattle.mage_base.specs.declared.failure.Damage.{Damage}
 use Rattle.mage_base.specs.Desk.{DeskTold, Files, files_with}
 use Rattle.mage_base.specs.Faults.{Rose}
 use Rattle.mage_base.specs.Store.{StoreTold}
+use Rattle.mage_driver.specs.Rules.{Begins}
 use Rattle.mage_source_runs.specs.Moves.{Moves}
 use Rattle.mage_words.specs.Words.{Driver, Plain, Garble, Eval, Request, Solo, Stats, Deal, Plan, Check, Upgrade, Gen}
 use Rattle.mage_planner.specs.declared.refusal.Refusal.{Refusal}
@@ -12,7 +13,7 @@ use Rattle.mage_planner.specs.declared.status.Status.{Status}
 use Rattle.mage_planner.specs.declared.status.Status.TheVariants as status
 use Rattle.mage_planner.specs.Lines.{status_of, line_of}
 use Rattle.mage_planner.specs.Outcome.{Done, NewFile}
-use Rattle.mage_planner.specs.Stores.{GivesBack, HaveMoved, HasBroken, HasDamaged, IsRight}
+use Rattle.mage_planner.specs.Stores.{GivesBack, HaveMoved, HasBroken, HasDamaged, IsRight, WereDeceived}
 use Rattle.mage_planner.specs.Warned.{Grows, WarnsLine}
 
 -- ---- what a command does
@@ -62,6 +63,10 @@ abbrev pub streams_of : Result Done Refusal → List NewFile
 streams_of (Ok done) = done.streams
 streams_of (Err why) = []
 
+abbrev pub others_of : Result Done Refusal → List NewFile
+others_of (Ok done) = done.files
+others_of (Err why) = []
+
 abbrev pub moves_in : Result Done Refusal → List Moves
 moves_in (Ok done) = done.moves
 moves_in (Err why) = []
@@ -96,6 +101,23 @@ pub record Returns (workers : ℕ) (shelves : List (List StoreTold)) (before aft
   pub few : length shelves ≤ workers
   pub given : GivesBack shelves before after
 
+-- these files are the first of those, in order, each with a front of what it is to hold
+abbrev pub AreFronts : (begun whole : List NewFile) → Type 0
+AreFronts [] whole = Unit {0}
+AreFronts (file ∷ begun) [] = ⊥
+AreFronts (file ∷ begun) (own ∷ whole) = (file.name ≡ own.name) × Begins file.bytes own.bytes × AreFronts begun whole
+
+-- The first of the streams were written, each as far as it came, and then others of the files; each further file stays.
+pub record HasBegun (streams others : List NewFile) (before after : Option Files) : Type 0 where
+  pub begun : List NewFile
+  pub fronts : AreFronts begun streams
+  pub rest : OthersStay others (with_files before begun) after
+
+-- what a command that was stopped leaves of its streams, unless the stores deceived
+abbrev pub StreamsBegin : Result Done Refusal → (before : DeskTold) → (shelves : List (List StoreTold)) → (after : DeskTold) → Type 0
+StreamsBegin outcome before shelves after =
+    HasBegun (streams_of outcome) (others_of outcome) before.files after.files ⊎ WereDeceived before shelves
+
 -- What a fault of the desk leaves: it may come while stores are asked for, and while a command writes its files and says its text.
 pub record Fails (outcome : Result Done Refusal) (before after : DeskTold) : Type 0 where
   pub shelves : List (List StoreTold)
@@ -104,6 +126,7 @@ pub record Fails (outcome : Result Done Refusal) (before after : DeskTold) : Typ
   pub text : List ℕ
   pub right : IsRight before shelves (text_of outcome) text
   pub breaks : BreaksOff text (files_of outcome) between after
+  pub fronts : StreamsBegin outcome before shelves after
 
 -- Streams were closed after a run was stopped: only the count of faults may have risen, and it stays where there are none.
 pub record Closes (streams : List NewFile) (before after : DeskTold) : Type 0 where
@@ -119,8 +142,10 @@ pub record Stops (outcome : Result Done Refusal) (before after : DeskTold) : Typ
   pub stopped : DeskTold
   pub ceases : Ceases (files_of outcome) between stopped
   pub closes : Closes (streams_of outcome) stopped after
+  pub fronts : StreamsBegin outcome before shelves after
 
--- what a store's fault leaves: nothing is said, and each file stays that isn't one of the command's
+-- What a store's fault leaves: nothing is said, and each file stays that isn't one of the command's; of its streams each that was
+-- opened has a front of what it is to hold.
 pub record Breaks (outcome : Result Done Refusal) (worker : ℕ) (before after : DeskTold) : Type 0 where
   pub shelves : List (List StoreTold)
   pub between : DeskTold
@@ -130,6 +155,7 @@ pub record Breaks (outcome : Result Done Refusal) (worker : ℕ) (before after :
   pub stopped : DeskTold
   pub ceases : Ceases (files_of outcome) between stopped
   pub closes : Closes (streams_of outcome) stopped after
+  pub fronts : StreamsBegin outcome before shelves after
 
 -- what a damaged page leaves: the same
 pub record Damages (outcome : Result Done Refusal) (worker : ℕ) (damage : Damage) (before after : DeskTold) : Type 0 where
@@ -140,6 +166,7 @@ pub record Damages (outcome : Result Done Refusal) (worker : ℕ) (damage : Dama
   pub stopped : DeskTold
   pub ceases : Ceases (files_of outcome) between stopped
   pub closes : Closes (streams_of outcome) stopped after
+  pub fronts : StreamsBegin outcome before shelves after
 
 -- what a refusal leaves before its line is warned; any other leaves all that the desk tells
 abbrev pub Leaves : Result Done Refusal → Refusal → (before after : DeskTold) → Type 0

@@ -1,5 +1,5 @@
 // A memory program is garbled over stores of the desk, into the stream files of its workers.
-ghost use Rattle.std.specs.Prelude.{◌≡◌, ◌≤◌, ◌<◌, ℕ, List, length, map, IsTrue, IfOk};
+ghost use Rattle.std.specs.Prelude.{◌≡◌, ◌≤◌, ◌<◌, ℕ, List, length, map, IsTrue, IsSome, IfOk};
 ghost use Rattle.mage_base.specs.Desk.{DeskTold};
 ghost use Rattle.mage_lending.specs.Names.{spelled};
 ghost use Rattle.mage_lending.specs.Stores.{told_on};
@@ -79,6 +79,11 @@ fn garble_into<D: Desk>(
         (told_on D.Pages.tells stores.items) (spelled streams.names.items)
         (map D.Output.tells streams.sinks.items) (D.tells desk.old)
         → IsNoDeskFault result → StoresAreSound before (D.tells desk.new) }
+    ensures steady { (done : Done) (before : DeskTold) → IsGarblingOf garbling.entry done
+        → HasOpened before garbling.entry (told_on D.Pages.tells stores.items)
+        (spelled streams.names.items) (map D.Output.tells streams.sinks.items) (D.tells desk.old)
+        → IsTrue before.steady → IsTrue before.stores_tell_pages → IsSome before.files
+        → IsNoDeskFault result × ((D.tells desk.new).faults ≡ before.faults) }
 {
     let Garbling {
         parts,
@@ -114,6 +119,11 @@ fn garble_over<D: Desk>(
     ensures sound { (before : DeskTold) → HasLent 16 before garbling.entry.parts.items
         (told_on D.Pages.tells stores.items) (D.tells desk.old)
         → IsNoDeskFault result → StoresAreSound before (D.tells desk.new) }
+    ensures steady { (done : Done) (before : DeskTold) → IsGarblingOf garbling.entry done
+        → HasLent 16 before garbling.entry.parts.items (told_on D.Pages.tells stores.items)
+        (D.tells desk.old)
+        → IsTrue before.steady → IsTrue before.stores_tell_pages → IsSome before.files
+        → IsNoDeskFault result × ((D.tells desk.new).faults ≡ before.faults) }
 {
     match open_sinks(alloc, desk, garbling.stream, &garbling.rooms) {
         Ok(streams) => garble_into(alloc, desk, garbling, stores, streams),
@@ -124,12 +134,16 @@ fn garble_over<D: Desk>(
     }
 }
 
-/// Garbles a memory program: asks for the stores of its workers, in their order, opens their stream files, runs, gives the stores
-/// back and closes the files in every case.
+/// Garbles a memory program: asks for the stores of its workers, in their order, opens their stream files, each with room for its
+/// stream, runs, gives the stores back and closes the files in every case.
 pub fn garble<D: Desk>(alloc: Global, desk: &mut D, garbling: Garbling<'_>) -> Result<(), Refusal>
     requires { CanBeGarbled garbling }
     ensures performs { (done : Done) → IsGarblingOf garbling.entry done
         → Performs done result (D.tells desk.old) (D.tells desk.new) }
+    ensures steady { (done : Done) → IsGarblingOf garbling.entry done
+        → IsTrue (D.tells desk.old).steady → IsTrue (D.tells desk.old).stores_tell_pages
+        → IsSome (D.tells desk.old).files
+        → IsNoDeskFault result × ((D.tells desk.new).faults ≡ (D.tells desk.old).faults) }
     ensures sound { IsNoDeskFault result → StoresAreSound (D.tells desk.old) (D.tells desk.new) }
 {
     let orders = orders_of(alloc, &garbling.parts, 16)?;

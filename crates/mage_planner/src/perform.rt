@@ -1,5 +1,5 @@
 // Doing what a command comes to.
-ghost use Rattle.std.specs.Prelude.{◌≡◌, ◌≢◌, ◌≤◌, [], length, IsTrue};
+ghost use Rattle.std.specs.Prelude.{◌≡◌, ◌≢◌, ◌≤◌, [], length, IsTrue, IsSome};
 ghost use Rattle.mage_planner.specs.Answer.{StoresAreSound};
 ghost use Rattle.mage_planner.specs.Steps.{IsNoDeskFault};
 ghost use Rattle.mage_planner.specs.Work.{CanBeDone, CanBeRun, IsRunOf, IsWorkOf, written_by};
@@ -62,7 +62,8 @@ pub fn perform<D: Desk>(alloc: Global, desk: &mut D, work: Work<'_>) -> Result<(
     ensures performs { (done : Done) → IsWorkOf work.entry done
         → Performs done result (D.tells desk.old) (D.tells desk.new) }
     ensures steady { (done : Done) → IsWorkOf work.entry done → IsTrue (D.tells desk.old).steady
-        → (done.moves ≢ [] → IsTrue (D.tells desk.old).stores_tell_pages) → done.streams ≡ []
+        → IsSome (D.tells desk.old).files
+        → (done.moves ≢ [] → IsTrue (D.tells desk.old).stores_tell_pages)
         → length done.said ≤ (D.tells desk.old).room → IsNoDeskFault result
         × ((D.tells desk.new).faults ≡ (D.tells desk.old).faults) }
     ensures sound { IsNoDeskFault result → StoresAreSound (D.tells desk.old) (D.tells desk.new) }

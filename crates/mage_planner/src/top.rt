@@ -1,5 +1,5 @@
 // The top call.
-ghost use Rattle.std.specs.Prelude.{◌≡◌, ◌≢◌, ◌≤◌, [], ℕ, length, None, true, IsTrue, IfSome};
+ghost use Rattle.std.specs.Prelude.{◌≡◌, ◌≢◌, ◌≤◌, ℕ, length, None, true, IsTrue, IfSome};
 ghost use Rattle.mage_base.specs.Faults.{Rose};
 ghost use Rattle.mage_words.specs.Words.{bytes_of_words};
 ghost use Rattle.mage_parser.specs.Laws.{ReadingIsTheGrammar};
@@ -13,7 +13,7 @@ ghost use Rattle.mage_planner.specs.Lines.{line_of};
 ghost use Rattle.mage_planner.specs.Outcome.{Found, asked_of, outcome_of, outcome_in};
 ghost use Rattle.mage_planner.specs.Steps.{WorkCounted, IsNoDeskFault};
 ghost use Rattle.mage_planner.specs.Upgrading.{EarlierFilesComeToTodays, UpgradesKeepCarried};
-ghost use Rattle.mage_planner.specs.Answer.{Answers, Works, WritesNoFile, RunsNothing, AnswerCounted, refusal_of, IsComplete, IsWordsOrMemory, HasRoom, TellsStores, StoresAreSound, streams_of};
+ghost use Rattle.mage_planner.specs.Answer.{Answers, Works, WritesNoFile, RunsNothing, AnswerCounted, refusal_of, IsComplete, IsWordsOrMemory, HasRoom, TellsStores, StoresAreSound};
 
 use crate::command::work;
 use crate::perform::perform;
@@ -34,7 +34,6 @@ fn run<D: Desk>(alloc: Global, words: &[String], desk: &mut D) -> Result<(), Ref
         IsNoDeskFault (outcome_in files (bytes_of_words words.now))
         → HasRoom (D.tells desk.old) (outcome_in files (bytes_of_words words.now))
         → TellsStores (D.tells desk.old) (outcome_in files (bytes_of_words words.now))
-        → streams_of (outcome_in files (bytes_of_words words.now)) ≡ []
         → IsNoDeskFault result × ((D.tells desk.new).faults ≡ (D.tells desk.old).faults)) }
     ensures sound { IsNoDeskFault result → StoresAreSound (D.tells desk.old) (D.tells desk.new) }
     ensures files { WritesNoFile (asked_of (bytes_of_words words.now))
@@ -75,11 +74,12 @@ fn run<D: Desk>(alloc: Global, words: &[String], desk: &mut D) -> Result<(), Ref
 /// status.
 pub fn planner<D: Desk>(alloc: Global, words: &[String], desk: &mut D) -> Status
     // Where the desk tells its files, they and the words decide; with Ok, just the outputs or the summary is said, for `gen` both,
-    // and nothing is warned, and just the files of the command are written. With any other answer every other file stays.
+    // and nothing is warned, and just the files of the command are written. With any other answer every other file stays, and
+    // of its streams the first so many hold a front each of what they are to hold, while the others stay too.
     // What `solo` says is what the source means, and so is what `gen` says behind the summary; the store of each worker was read
     // and written just as often as the memory program has issues of reads and of writes. Where the desk's stores don't tell their
-    // pages, another text may be said, but only if one of them answered a read with other bytes than were last written, of the
-    // same SHA-256 digest.
+    // pages, another text may be said, or other bytes stand in the streams, but only if one of them answered a read with other
+    // bytes than were last written, of the same SHA-256 digest.
     // Store comes only where the count of faults of the stores of the worker that the line names rose; Damaged only where the
     // desk's stores don't tell their pages, and that worker's answered a read of the page with another digest than it was written
     // with. Every store that was handed out is given back, with each answer.
@@ -134,7 +134,6 @@ pub fn planner<D: Desk>(alloc: Global, words: &[String], desk: &mut D) -> Status
         IsNoDeskFault (outcome_in files (bytes_of_words words.now))
         → HasRoom (D.tells desk.old) (outcome_in files (bytes_of_words words.now))
         → TellsStores (D.tells desk.old) (outcome_in files (bytes_of_words words.now))
-        → streams_of (outcome_in files (bytes_of_words words.now)) ≡ []
         → length (line_of refusals.Memory) ≤ (D.tells desk.old).warn_room
         → ((D.tells desk.new).faults ≡ (D.tells desk.old).faults)
         × StoresAreSound (D.tells desk.old) (D.tells desk.new)

@@ -7,8 +7,9 @@ use Rattle.mage_lending.specs.Sinks.{HaveFiles}
 use Rattle.mage_lending.specs.Stores.{told_on}
 use Rattle.mage_planner.proofs.RanLemmas.{suits, lent_count, few_parts, same_shape, one_on_each, as_many_back}
 use Rattle.mage_planner.proofs.StreamLemmas.{none_have_failed, opened_count}
-use Rattle.mage_planner.proofs.GarbledLemmas.{garbling_ends, garbling_sound}
+use Rattle.mage_planner.proofs.GarbledLemmas.{garbling_ends, garbling_sound, source}
 use Rattle.mage_planner.proofs.GarblingLemmas.{lent_still, lent_then, names_long}
+use Rattle.mage_planner.proofs.SteadyLemmas.{none_failed, ok_so, only_memory, still_counted, still_steady, stores_suffice, streams_fit, told_taken}
 use Rattle.mage_planner.proofs.garbling.garble_into.Goals as goal
 
 pub run_garbling-fault-requires-clause-sinks : goal.run_garbling-fault-requires-clause-sinks
@@ -66,7 +67,34 @@ returns-clause-performs g c = λ done before is has.
     (none_have_failed sinks before c.args.garbling.rooms.items (map sinks c.args.streams.sinks.items) run.sinks.items has.handed
     (c.run_garbling-fault.ensures.sinks ∙ sym (length-map c.args.streams.sinks.items sinks)) (c.run_garbling-fault.ensures.quiet none)))
     c.run_garbling-fault.ensures.count c.run_garbling-fault.ensures.comes
-    (λ none plan number emitted fine parts carries runs told. c.run_garbling-fault.ensures.streams plan number emitted fine parts carries runs told none))
+    (λ none plan number emitted fine parts carries runs told. c.run_garbling-fault.ensures.streams plan number emitted fine parts carries runs told none)
+    (λ other plan number emitted fine parts carries runs told. c.run_garbling-fault.ensures.fronts plan number emitted fine parts carries runs told other)
+    (λ memory. (c.run_garbling-fault.ensures.memory memory).1))
+
+pub returns-clause-steady : goal.returns-clause-steady
+returns-clause-steady g c = λ done before is has steady tells_pages told.
+    let tells = g.D.Pages.Store.tells in
+    let sinks = g.D.Output.Sink.tells in
+    let run = c.run_garbling-fault.result in
+    let lent = lent_then before _ c.args.garbling _ _ _ has in
+    let many = as_many_back tells 16 before _ c.args.garbling.parts.items c.args.stores.items run.stores.items lent c.run_garbling-fault.ensures.shape in
+    let now = lent_still before _ c.args.garbling _ _ _ has (length run.stores.items) many in
+    let back = c.give_stores_back.ensures before.lent now in
+    let shape = same_shape tells 16 before _ c.args.garbling.parts.items c.args.stores.items run.stores.items lent c.run_garbling-fault.ensures.shape in
+    let own = source c.args.garbling done is in
+    let suffice = stores_suffice c.args.garbling c.requires.can before _ _ _ _ _ _ has shape c.run_garbling-fault.ensures.grown back steady tells_pages in
+    let calm = still_steady c.args.garbling c.requires.can before _ _ _ _ _ _ has shape c.run_garbling-fault.ensures.grown back in
+    let counted = still_counted c.args.garbling c.requires.can before _ _ _ _ _ _ has shape c.run_garbling-fault.ensures.grown back in
+    let memory = c.run_garbling-fault.ensures.roomy is.plan own.count own.emitted own.accepted.fields is.parts own.carries own.runs
+    (told_taken before c.args.garbling.rooms.items (map sinks c.args.streams.sinks.items) told has.handed) suffice
+    (streams_fit c.args.garbling done is before (map sinks c.args.streams.sinks.items) has.handed steady) in
+    let closed = c.close_sinks-closed.ensures.steady (rw calm steady) in
+    let quiet = c.close_sinks-closed.ensures.quiet
+    (none_have_failed sinks before c.args.garbling.rooms.items (map sinks c.args.streams.sinks.items) run.sinks.items has.handed
+    (c.run_garbling-fault.ensures.sinks ∙ sym (length-map c.args.streams.sinks.items sinks))
+    (none_failed (map sinks c.args.streams.sinks.items) (map sinks run.sinks.items) run.fault memory c.run_garbling-fault.ensures.quiet
+    (λ memory. (c.run_garbling-fault.ensures.memory memory).1))) in
+    rw c.ended.ensures (only_memory run.fault c.close_sinks-closed.result closed memory, ok_so _ c.close_sinks-closed.result closed quiet ∙ counted)
 
 pub returns-clause-sound : goal.returns-clause-sound
 returns-clause-sound g c = λ before has unbroken.

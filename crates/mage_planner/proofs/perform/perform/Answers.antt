@@ -2,7 +2,7 @@ use Rattle.std.proofs.Common.{[], refl, sym, ap, ◌∙◌}
 use Rattle.mage_planner.specs.Outcome.{Done, says}
 use Rattle.mage_planner.specs.Work.{dealt_by, written_by}
 use Rattle.mage_planner.proofs.PerformLemmas.{calm_too, work_without_stores}
-use Rattle.mage_planner.proofs.GarbledLemmas.{some_stream}
+use Rattle.mage_planner.proofs.GarbledLemmas.{some_garbled_moves}
 use Rattle.mage_planner.proofs.RanLemmas.{all_sound, some_moves, still_sound}
 use Rattle.mage_planner.proofs.perform.perform.Goals as goal
 
@@ -28,37 +28,37 @@ pub returns-in-Write-clause-sound : goal.returns-in-Write-clause-sound
 returns-in-Write-clause-sound g c = λ none. still_sound (written_by c.in-Write.writing).said (written_by c.in-Write.writing).files c.write_and_say.result (g.D.Desk.tells c.args.desk.now) (g.D.Desk.tells c.args.desk.now) (g.D.Desk.tells c.write_and_say.new.desk) (all_sound (g.D.Desk.tells c.args.desk.now)) c.write_and_say.ensures.performs
 
 pub returns-in-Say-clause-steady : goal.returns-in-Say-clause-steady
-returns-in-Say-clause-steady g c = λ done is steady tells none has.
+returns-in-Say-clause-steady g c = λ done is steady files tells has.
     let same = rw c.in-Say.is at is in
-    calm_too done _ _ c.say.result none (work_without_stores done (says c.in-Say.text.items) c.say.result _ _ refl refl same (rw c.deref.ensures.value at c.say.ensures.performs))
+    calm_too done _ _ c.say.result (ap (λ (d : Done). d.streams) same) (work_without_stores done (says c.in-Say.text.items) c.say.result _ _ refl refl same (rw c.deref.ensures.value at c.say.ensures.performs))
     (c.say.ensures.steady steady (rw c.deref.ensures.value (rw same at has)))
 
 pub returns-in-Deal-clause-steady : goal.returns-in-Deal-clause-steady
-returns-in-Deal-clause-steady g c = λ done is steady tells none has.
-    calm_too done _ _ c.deal_labels.result none
+returns-in-Deal-clause-steady g c = λ done is steady files tells has.
+    calm_too done _ _ c.deal_labels.result (ap (λ (d : Done). d.streams) (rw c.in-Deal.is at is))
     (work_without_stores done (dealt_by c.in-Deal.dealing) c.deal_labels.result _ _ refl refl (rw c.in-Deal.is at is) c.deal_labels.ensures.performs)
     (c.deal_labels.ensures.steady steady)
 
 pub returns-in-Write-clause-steady : goal.returns-in-Write-clause-steady
-returns-in-Write-clause-steady g c = λ done is steady tells none has.
+returns-in-Write-clause-steady g c = λ done is steady files tells has.
     let same = rw c.in-Write.is at is in
-    calm_too done _ _ c.write_and_say.result none
+    calm_too done _ _ c.write_and_say.result (ap (λ (d : Done). d.streams) same)
     (work_without_stores done (written_by c.in-Write.writing) c.write_and_say.result _ _ refl refl same c.write_and_say.ensures.performs)
     (c.write_and_say.ensures.steady steady (rw same at has))
 
 pub returns-in-Run-clause-steady : goal.returns-in-Run-clause-steady
-returns-in-Run-clause-steady g c = λ done is steady tells none has.
+returns-in-Run-clause-steady g c = λ done is steady files tells has.
     let run = rw c.in-Run.is at is in
-    calm_too done _ _ c.run_and_say.result none (c.run_and_say.ensures.performs done run)
+    calm_too done _ _ c.run_and_say.result (ap (λ (d : Done). d.streams) run.is) (c.run_and_say.ensures.performs done run)
     (c.run_and_say.ensures.steady done run steady (tells (some_moves c.in-Run.running done (rw c.in-Run.is at c.requires) run)) has)
 
 pub returns-in-Garble-clause-steady : goal.returns-in-Garble-clause-steady
-returns-in-Garble-clause-steady g c = λ done is steady tells none has.
+returns-in-Garble-clause-steady g c = λ done is steady files tells has.
     let garbles = rw c.in-Garble.is at is in
-    absurd (some_stream c.in-Garble.garbling done garbles (rw c.in-Garble.is at c.requires) none)
+    c.garble.ensures.steady done garbles steady (tells (some_garbled_moves c.in-Garble.garbling done garbles (rw c.in-Garble.is at c.requires))) files
 
 pub returns-in-Generate-clause-steady : goal.returns-in-Generate-clause-steady
-returns-in-Generate-clause-steady g c = λ done is steady tells none has.
+returns-in-Generate-clause-steady g c = λ done is steady files tells has.
     let generates = rw c.in-Generate.is at is in
-    calm_too done _ _ c.generate.result none (c.generate.ensures.performs done generates)
+    calm_too done _ _ c.generate.result (ap (λ (d : Done). d.streams) generates.is) (c.generate.ensures.performs done generates)
     (c.generate.ensures.steady done generates steady (tells (λ nothing. some_moves c.in-Generate.generating.running generates.run (rw c.in-Generate.is at c.requires) generates.is_run (sym (ap (λ (d : Done). d.moves) generates.is) ∙ nothing))) has)

@@ -98,7 +98,7 @@ returns-in_err-work-clause-steady g c = λ steady.
     rw (p.1, p.2) (IfSome_then (g.D.Desk.tells c.args.desk.now).files
     {P = λ files. Refuses (g.D.Desk.tells c.args.desk.now).steady why (outcome_in files (bytes_of_words c.args.words.now))}
     c.in_err-work.ensures.told
-    (λ files h found has tells none. refused_steady _ why (outcome_in files (bytes_of_words c.args.words.now)) _ _ steady h c.in_err-work.ensures.cause found))
+    (λ files h found has tells. refused_steady _ why (outcome_in files (bytes_of_words c.args.words.now)) _ _ steady h c.in_err-work.ensures.cause found))
 
 pub returns-in_err-work-clause-cause : goal.returns-in_err-work-clause-cause
 returns-in_err-work-clause-cause g c =
