@@ -14,6 +14,10 @@ const GARBLE: &str = "solo --source s --driver garble --garbler g --seed d --str
 const THREE: &[u8] =
     b"input garbler a: u64; input garbler b: u64; input garbler c: u64; output a; output b;";
 
+// Five values, whose stream is longer than the 4,096 bytes that go to a file in one put.
+const FIVE: &[u8] = b"input garbler a: u64; input garbler b: u64; input garbler c: u64; \
+input garbler d: u64; input garbler e: u64; output a;";
+
 // Two frames and one slot: the page of the second leaves for that of the third, and comes back.
 const TIGHT: &str = "solo --source s --driver garble --garbler g --seed d --stream p --page 64 \
 --frames 2 --buffer 1";
@@ -176,14 +180,14 @@ fn failing(rt: &impl Abort, alloc: Global, call: u64, length: Option<usize>) -> 
 }
 
 // A desk of which put number `put` of the stream file fails.
-fn full(alloc: Global, put: u64) -> Result<MemDesk, Memory> {
+fn full(alloc: Global, source: &[u8], garbler: &[u8], put: u64) -> Result<MemDesk, Memory> {
     let mut calls = Items::new(alloc);
     calls.push(put)?;
     let mut fails = DeskFails::none(alloc);
     fails
         .outputs
         .push((String::from_str(alloc, "p.0")?, calls))?;
-    seeded(alloc, &fails, SUM, b"200", &[0; 32])
+    seeded(alloc, &fails, source, garbler, &[0; 32])
 }
 
 fn puts(
@@ -194,9 +198,30 @@ fn puts(
     length: usize,
 ) -> Result<(), Memory> {
     let words = words_of(alloc, GARBLE)?;
-    let mut desk = full(alloc, put)?;
+    let mut desk = full(alloc, SUM, b"200", put)?;
     comes_to(rt, alloc, &words, &mut desk, row);
     assert!(rt; length_of(alloc, &mut desk, "p.0") == Some(length), "{put}");
+    Ok(())
+}
+
+// What the stream file of the five values holds, where put number `put` of it fails.
+fn stream_with(rt: &impl Abort, alloc: Global, put: u64, row: &Row<'_>) -> Result<Vec<u8>, Memory> {
+    let words = words_of(alloc, GARBLE)?;
+    let mut desk = full(alloc, FIVE, b"1\n2\n3\n4\n5\n", put)?;
+    comes_to(rt, alloc, &words, &mut desk, row);
+    match desk.fetch(alloc, "p.0", 10_000) {
+        Ok(bytes) => Ok(bytes),
+        Err(_) => Err(Memory),
+    }
+}
+
+// Where the second put fails the file holds what the first one took: a front of the stream, neither empty nor all of it.
+fn a_front(rt: &impl Abort, alloc: Global) -> Result<(), Memory> {
+    let front = stream_with(rt, alloc, 1, &row_of(Status::Desk, DESK_FAULT))?;
+    let whole = stream_with(rt, alloc, 2, &row_of(Status::Ok, b""))?;
+    assert!(rt; !front.is_empty());
+    assert!(rt; front.len() < whole.len());
+    assert!(rt; whole.starts_with(&front));
     Ok(())
 }
 
@@ -245,6 +270,7 @@ fn streams_may_break_off(rt: HostRuntime) -> Result<(), Fail> {
     let alloc = rt.alloc();
     puts(&rt, alloc, 0, &row_of(Status::Desk, DESK_FAULT), 0)?;
     puts(&rt, alloc, 1, &row_of(Status::Ok, b""), 360)?;
+    a_front(&rt, alloc)?;
     breaks(&rt, alloc, 0)?;
     breaks(&rt, alloc, 1)?;
     Ok(())
