@@ -12,9 +12,9 @@ use Rattle.mage_planner.specs.Lines.{status_of, line_of}
 use Rattle.mage_planner.specs.Outcome.{Done, NewFile}
 use Rattle.mage_planner.specs.Steps.{IsNotDesk, IsNoDeskFault}
 use Rattle.mage_planner.specs.Warned.{WarnsLine, IsOrMemory}
-use Rattle.mage_planner.specs.Answer.{Answers, AnswersRefusal, Works, ComesFrom, Leaves, Stops, OthersStay, HasRoom, TellsStores, StoresAreSound, IsComplete, files_of, streams_of, refusal_of}
+use Rattle.mage_planner.specs.Answer.{Answers, AnswersRefusal, Works, ComesFrom, Leaves, Stops, OthersStay, HasRoom, TellsStores, StoresAreSound, IsComplete, StreamsAreRight, files_of, reads_of, streams_of, refusal_of}
 use Rattle.mage_planner.proofs.BegunLemmas.{nothing_begun}
-use Rattle.mage_planner.proofs.PerformLemmas.{back_faults, none_back, none_closed}
+use Rattle.mage_planner.proofs.PerformLemmas.{back_faults, back_files, none_back, none_closed}
 
 -- the status of a refusal is none of Ok
 answers : (steady : Bool) (outcome : Result Done Refusal) (before after : DeskTold) (why : Refusal)
@@ -67,13 +67,23 @@ stops outcome (refusal.Damaged worker damage) before after other damages = recor
   closes = damages.closes;
   fronts = damages.fronts;
 }
+stops outcome (refusal.Stream worker fault) before after other misreads = record {
+  shelves = misreads.shelves;
+  between = misreads.between;
+  returns = misreads.returns;
+  stopped = misreads.between;
+  ceases = record { files = others_stay (files_of outcome) misreads.between.files; rest = refl };
+  closes = record { rises = misreads.rises; calm = λ none unread. let reads = misreads.reads in absurd (cc); rest = misreads.rest };
+  fronts = nothing_begun outcome before after misreads.shelves
+      (ap (λ (desk : DeskTold). desk.files) misreads.rest ∙ back_files misreads.shelves before misreads.between misreads.returns.given);
+}
 stops outcome why before after other leaves = rw leaves (record {
   shelves = [];
   between = before;
   returns = record { few = omega arith; given = none_back before };
   stopped = before;
   ceases = record { files = others_stay (files_of outcome) before.files; rest = refl };
-  closes = none_closed (streams_of outcome) before;
+  closes = none_closed (streams_of outcome) (reads_of outcome) before;
   fronts = nothing_begun outcome before before [] refl;
 })
 
@@ -84,6 +94,10 @@ store_status why not e = cc
 damage_status : (why : Refusal) → IsNotDesk why → status_of why ≡ status.Damaged → ⊥
 damage_status (refusal.Damaged worker damage) not e = not
 damage_status why not e = cc
+
+stream_status : (why : Refusal) → IsNotDesk why → status_of why ≡ status.Stream → ⊥
+stream_status (refusal.Stream worker fault) not e = not
+stream_status why not e = cc
 
 not_desk : (why : Refusal) → IsNotDesk why → why ≡ refusal.Desk → ⊥
 not_desk refusal.Desk not same = not
@@ -100,6 +114,7 @@ own_fits : (steady : Bool) (outcome : Result Done Refusal) (desk : DeskTold) (ow
 own_fits steady outcome desk refusal.Desk comes not has memory = absurd not
 own_fits steady outcome desk (refusal.Store worker) comes not has memory = absurd not
 own_fits steady outcome desk (refusal.Damaged worker damage) comes not has memory = absurd not
+own_fits steady outcome desk (refusal.Stream worker fault) comes not has memory = absurd not
 own_fits steady outcome desk refusal.Memory comes not has memory = memory
 own_fits steady outcome desk own comes not has memory = rw comes at has
 
@@ -163,18 +178,18 @@ module _ (steady : Bool) (own warned : Refusal) (answer : Status) (is : answer �
         → between.warn_room ≡ before.warn_room
         → (IsNotDesk own → StoresAreSound before between)
         → IfSome files (λ files.
-        IsNoDeskFault (outcome files) → HasRoom before (outcome files) → TellsStores before (outcome files)
+        IsNoDeskFault (outcome files) → HasRoom before (outcome files) → TellsStores before (outcome files) → StreamsAreRight (outcome files)
         → IsNotDesk own × (between.faults ≡ before.faults))
         → IfSome files (λ files.
         Works {T = Unit {0}} steady (outcome files) (Err own) before between)
         → IfSome files (λ files. IsNoDeskFault (outcome files) → HasRoom before (outcome files)
-        → TellsStores before (outcome files)
+        → TellsStores before (outcome files) → StreamsAreRight (outcome files)
         → length (line_of refusal.Memory) ≤ before.warn_room
         → (after.faults ≡ before.faults) × StoresAreSound before after
-        × (answer ≢ status.Desk) × (answer ≢ status.Store) × (answer ≢ status.Damaged))
+        × (answer ≢ status.Desk) × (answer ≢ status.Store) × (answer ≢ status.Damaged) × (answer ≢ status.Stream))
     steady_files None outcome holds stays room sound is_not works = tt
-    steady_files (Some files) outcome holds stays room sound is_not works = λ found has tells memory.
-        let calm = is_not found has tells in
+    steady_files (Some files) outcome holds stays room sound is_not works = λ found has tells fine memory.
+        let calm = is_not found has tells fine in
         let not = calm.0 in
         let not_warned = warned_not_desk same not in
         let returned : after.returned ≡ between.returned = ap (λ (desk : DeskTold). desk.returned) warns.rest in (
@@ -184,6 +199,7 @@ module _ (steady : Bool) (own warned : Refusal) (answer : Status) (is : answer �
           λ desk. not_desk warned not_warned (desk_status warned (sym is ∙ desk)),
           λ store. store_status warned not_warned (sym is ∙ store),
           λ damaged. damage_status warned not_warned (sym is ∙ damaged),
+          λ stream. stream_status warned not_warned (sym is ∙ stream),
         )
 
     -- where nothing is refused and no count of faults rose, only want of memory is left, or damage that isn't told
@@ -191,13 +207,13 @@ module _ (steady : Bool) (own warned : Refusal) (answer : Status) (is : answer �
         → refusal_of outcome ≡ None
         → (Rose before.faults after.faults → ⊥)
         → ((worker : ℕ) → Rose (before.returned worker).faults (after.returned worker).faults → ⊥)
-        → IsComplete before.stores_tell_pages answer
+        → IsComplete before.stores_tell_pages (reads_of outcome) answer
     complete outcome works none calm sound = rw is (by_line same) where
-      by_line : IsOrMemory own warned → IsComplete before.stores_tell_pages (status_of warned)
+      by_line : IsOrMemory own warned → IsComplete before.stores_tell_pages (reads_of outcome) (status_of warned)
       by_line (inr memory) = rw memory.0 tt
       by_line (inl e) = rw e (by_own own works none calm) where
         by_own : (why : Refusal) → Works {T = Unit {0}} steady outcome (Err why) before between → refusal_of outcome ≡ None
-            → (Rose before.faults after.faults → ⊥) → IsComplete before.stores_tell_pages (status_of why)
+            → (Rose before.faults after.faults → ⊥) → IsComplete before.stores_tell_pages (reads_of outcome) (status_of why)
         by_own refusal.Desk works none calm =
             let faults = back_faults works.1.shelves before works.1.between works.1.returns.given in
             let rose : Rose before.faults between.faults = rw faults at works.1.breaks.rose in
@@ -208,6 +224,7 @@ module _ (steady : Bool) (own warned : Refusal) (answer : Status) (is : answer �
             let returned : after.returned ≡ between.returned = ap (λ (desk : DeskTold). desk.returned) warns.rest in
             absurd (sound worker (subst (λ (r : ℕ → Returned). Rose (before.returned worker).faults (r worker).faults) (sym returned) works.1.rose))
         by_own (refusal.Damaged worker damage) works none calm = works.1.damaged.untold
+        by_own (refusal.Stream worker fault) works none calm = works.1.reads
         by_own why works none calm = let e = works.0 in absurd (cc)
 
     pub complete_files : (files : Option Files) (outcome : Files → Result Done Refusal)
@@ -215,6 +232,6 @@ module _ (steady : Bool) (own warned : Refusal) (answer : Status) (is : answer �
         → IfSome files (λ files. refusal_of (outcome files) ≡ None
         → (Rose before.faults after.faults → ⊥)
         → ((worker : ℕ) → Rose (before.returned worker).faults (after.returned worker).faults → ⊥)
-        → IsComplete before.stores_tell_pages answer)
+        → IsComplete before.stores_tell_pages (reads_of (outcome files)) answer)
     complete_files None outcome works = tt
     complete_files (Some files) outcome works = complete (outcome files) works

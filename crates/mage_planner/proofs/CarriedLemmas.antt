@@ -16,11 +16,12 @@ use Rattle.mage_pipe.specs.MemoryProgram.{memory_program_of, plan_of}
 use Rattle.mage_verify.specs.declared.fault.VerifyFault.{VerifyFault}
 use Rattle.mage_written.proofs.Files.{plans_are_plans}
 use Rattle.mage_planner.specs.declared.refusal.Refusal.{Refusal}
-use Rattle.mage_planner.specs.Outcome.{File, Held, NewFile, Done, source_of, or_language, or_limits, or_file, costs_of, plans, plan_outcome, program_of, unless_faulty, carry_of, carried_or, check_outcome}
+use Rattle.mage_planner.specs.Outcome.{NewFile, Done, source_of, or_language, or_limits, or_file, costs_of, plans, plan_outcome, program_of, unless_faulty, carry_of, carried_or, check_outcome}
+use Rattle.mage_planner.specs.Found.{File, Held}
 use Rattle.mage_planner.specs.Checking.{PlansAreCarried}
 use Rattle.mage_planner.proofs.UpgradeLemmas.{then_is}
 
-or_language_ok : {T : Type 0} (r : Result T LangFault) (x : T) → or_language r ≡ Ok x → r ≡ Ok x
+pub or_language_ok : {T : Type 0} (r : Result T LangFault) (x : T) → or_language r ≡ Ok x → r ≡ Ok x
 or_language_ok {T = T} (Ok y) x h = ap (λ (z : T). Ok z) (same_Ok y x h)
 or_language_ok (Err fault) x h = absurd (err_not_ok _ x h)
 

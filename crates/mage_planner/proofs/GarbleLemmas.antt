@@ -30,7 +30,8 @@ use Rattle.mage_planner.specs.declared.garble.GarbleRequest.{GarbleRequest}
 use Rattle.mage_planner.specs.declared.refusal.Refusal.{Refusal}
 use Rattle.mage_planner.specs.declared.work.Garbling.{Garbling}
 use Rattle.mage_planner.specs.Garbled.{asked_by}
-use Rattle.mage_planner.specs.Outcome.{File, Absent, Found, Done, nothing_found, found_in, file_at, SEED_BYTES, source_of, numbers_of, seed_of, program_for, garbles, solo_outcome, garble_outcome, driven_outcome}
+use Rattle.mage_planner.specs.Outcome.{Done, source_of, numbers_of, seed_of, program_for, garbles, solo_outcome, garble_outcome, driven_outcome}
+use Rattle.mage_planner.specs.Found.{File, Absent, Found, nothing_found, found_in, file_at, SEED_BYTES}
 use Rattle.mage_planner.specs.Steps.{Refuses}
 use Rattle.mage_planner.specs.Work.{CanBeGarbled, IsGarblingOf}
 use Rattle.mage_planner.proofs.StepLemmas.{at_first, after_first, both_done, told_so, only_source, source_garbler}

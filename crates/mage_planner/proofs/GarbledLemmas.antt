@@ -1,5 +1,5 @@
 -- What a garbling comes to.
-use Rattle.std.proofs.Common.{◌≡◌, ◌≢◌, ◌≤◌, ◌+◌, ◌++◌, ◌⊎◌, inl, inr, ℕ, zero, suc, List, [], length, Option, Some, None, Result, Ok, Err, refl, sym, ap, ap₂, subst, ◌∙◌, arith}
+use Rattle.std.proofs.Common.{◌≡◌, ◌≢◌, ◌≤◌, ◌+◌, ◌++◌, ◌⊎◌, inl, inr, ℕ, List, [], length, Option, Some, None, Result, Ok, Err, refl, sym, ap, ap₂, subst, ◌∙◌, arith}
 use Rattle.std.specs.Prelude.{IfSome, OnOk}
 use Rattle.std.proofs.lemmas.List.{append-nil, length-map}
 use Rattle.mage_base.specs.declared.failure.Damage.{Damage}
@@ -34,7 +34,7 @@ use Rattle.mage_planner.specs.declared.refusal.Refusal.TheVariants as refusal
 use Rattle.mage_planner.specs.declared.work.Garbling.{Garbling}
 use Rattle.mage_planner.specs.Outcome.{Done, NewFile, stream_files}
 use Rattle.mage_planner.specs.Stores.{GivesBack, HaveMoved, IsRight}
-use Rattle.mage_planner.specs.Answer.{Does, AreFronts, BreaksOff, Ceases, Closes, OthersStay, StoresAreSound, StreamsBegin, with_files}
+use Rattle.mage_planner.specs.Answer.{Does, AreFronts, BreaksOff, Ceases, Closes, NothingIsWrong, OthersStay, StoresAreSound, StreamsBegin, with_files}
 use Rattle.mage_planner.specs.Steps.{IsNoDeskFault}
 use Rattle.mage_planner.specs.Writing.{Interrupts, Performs}
 use Rattle.mage_planner.specs.Work.{CanBeGarbled, IsGarblingOf}
@@ -43,7 +43,7 @@ use Rattle.mage_planner.proofs.WritingLemmas.{none_stays, performs_files}
 use Rattle.mage_planner.proofs.BegunLemmas.{Held, taken_held, fronts_held, none_took_fronts, fronts_right}
 use Rattle.mage_planner.proofs.RunLemmas.{moves_of_parts, counts, given, as_many, has_broken, has_damaged, were_deceived, rose, broken_inside, damaged_inside, all_moved, sound_back, sound_used, sound_unused}
 use Rattle.mage_planner.proofs.RanLemmas.{moves_from, some_parts}
-use Rattle.mage_planner.proofs.StreamLemmas.{names_of, filed, filed_names, stream_names, begun_stay, files_untold, refilled, fronts_count, taken_count, opened_count, no_fault_at, filled_right, tell_taken, sinks_keep, sinks_raise}
+use Rattle.mage_planner.proofs.StreamLemmas.{count_files, names_of, filed, filed_names, stream_names, begun_stay, files_untold, refilled, fronts_count, taken_count, opened_count, no_fault_at, filled_right, tell_taken, sinks_keep, sinks_raise}
 
 -- ---- stores that are back while streams are still open
 
@@ -119,6 +119,9 @@ module _ (garbling : Garbling) (done : Done) (is : IsGarblingOf garbling done) w
   pub no_files_garbled : done.files ≡ []
   no_files_garbled = ap (λ (d : Done). d.files) is.is
 
+  nothing_read : done.reads ≡ None
+  nothing_read = ap (λ (d : Done). d.reads) is.is
+
   pub nothing_said : done.said ≡ []
   nothing_said = ap (λ (d : Done). d.said) is.is
 
@@ -132,10 +135,6 @@ module _ (garbling : Garbling) (done : Done) (is : IsGarblingOf garbling done) w
       let some = some_parts garbling.parts.items can.verified in
       let rooms = can.rooms in
       absurd (omega (arith, many, named, count, files, some, rooms))
-    where
-      count_files : (stem : List ℕ) (first count : ℕ) → length (worker_files stem first count) ≡ count
-      count_files stem first zero = refl
-      count_files stem first (suc count) = ap suc (count_files stem (first + 1) count)
 
   pub some_garbled_moves : CanBeGarbled garbling → done.moves ≢ []
   some_garbled_moves can none =
@@ -166,10 +165,10 @@ module _ (garbling : Garbling) (done : Done) (is : IsGarblingOf garbling done) w
       ceases : Ceases (done.streams ++ done.files) between ceased
       ceases = record { files = files_stay; rest = refl }
 
-      closes : CanBeGarbled garbling → Closes done.streams ceased after
+      closes : CanBeGarbled garbling → Closes done.streams done.reads ceased after
       closes can = record {
         rises = rises;
-        calm = λ none. absurd (some_stream can none);
+        calm = λ none unread. absurd (some_stream can none);
         rest = left ∙ ap (λ (f : Option Files). record between { files = f; faults = after.faults }) (sym (ap (λ (desk : DeskTold). desk.files) left));
       }
 
@@ -198,7 +197,7 @@ module _ (garbling : Garbling) (done : Done) (is : IsGarblingOf garbling done) w
         between = between;
         returns = record { few = few; given = gives };
         text = [];
-        right = inl (sym nothing_said);
+        right = λ own. inl (sym nothing_said);
         breaks = breaks rose;
         fronts = fronts;
       }
@@ -242,10 +241,6 @@ module _ (garbling : Garbling) (done : Done) (is : IsGarblingOf garbling done) w
       names_long =
           ap (λ (l : List (List ℕ)). length l) has.named ∙ count_files garbling.stream.now 0 (length garbling.rooms.items)
           ∙ sym (opened_count before garbling.rooms.items sinks has.handed)
-        where
-          count_files : (stem : List ℕ) (first count : ℕ) → length (worker_files stem first count) ≡ count
-          count_files stem first zero = refl
-          count_files stem first (suc count) = ap suc (count_files stem (first + 1) count)
 
       named : (contents : List (List ℕ)) → length contents ≡ length others → names_of done.streams ≡ names_of (filed names contents)
       named contents long =
@@ -427,7 +422,8 @@ module _ (garbling : Garbling) (done : Done) (is : IsGarblingOf garbling done) w
             between = between;
             given = gives;
             text = [];
-            right = inl (sym nothing_said);
+            right = λ own. inl (sym nothing_said);
+            sound = λ own. inl (subst (NothingIsWrong (length done.moves)) (sym nothing_read) tt);
             filled = filled;
             right_streams = right;
             named = named_so;

@@ -1,5 +1,5 @@
 -- Streams that weren't opened, and stores that were lent for nothing.
-use Rattle.std.proofs.Common.{◌≡◌, ◌≤◌, ◌+◌, ◌-◌, ◌++◌, ℕ, zero, suc, inl, List, [], ◌∷◌, length, Option, Some, None, Ok, Err, refl, sym, ap, ap₂, subst, ◌∙◌, arith}
+use Rattle.std.proofs.Common.{◌≡◌, ◌≤◌, ◌+◌, ◌-◌, ◌++◌, ℕ, inl, List, [], ◌∷◌, length, Option, Some, None, Ok, Err, refl, sym, ap, ap₂, subst, ◌∙◌, arith}
 use Rattle.std.specs.Prelude.{IfSome}
 use Rattle.std.specs.Option.{option_map}
 use Rattle.std.proofs.lemmas.List.{append-nil}
@@ -25,7 +25,7 @@ use Rattle.mage_planner.specs.Writing.{Interrupts}
 use Rattle.mage_planner.specs.Work.{CanBeGarbled, IsGarblingOf}
 use Rattle.mage_planner.specs.Ran.{HasLent, HasOpened, unopened_by}
 use Rattle.mage_planner.proofs.RunLemmas.{given, as_many, sound_back, sound_unused}
-use Rattle.mage_planner.proofs.StreamLemmas.{names_of, nothing_in, nothing_named, emptied_is, names_split, opened_count}
+use Rattle.mage_planner.proofs.StreamLemmas.{count_files, names_of, nothing_in, nothing_named, emptied_is, names_split, opened_count}
 use Rattle.mage_planner.proofs.WritingLemmas.{none_stays}
 use Rattle.mage_planner.proofs.BegunLemmas.{empty_fronts}
 use Rattle.mage_planner.proofs.GarbledLemmas.{garbled_count, streams_are, streams_named, stops_garbling, fails_garbling}
@@ -82,7 +82,7 @@ grew_not store = record {
 same_one : (x y : StoreTold) → ◌≡◌ {A = Option (List StoreTold)} (Some (x ∷ [])) (Some (y ∷ [])) → x ≡ y
 same_one x y e = cc
 
-grown_not : (parts : List WorkerPart) (fresh : List (List StoreTold)) → HaveGrown parts fresh fresh
+pub grown_not : (parts : List WorkerPart) (fresh : List (List StoreTold)) → HaveGrown parts fresh fresh
 grown_not parts fresh w worker =
     let same : worker.old ≡ worker.new = same_one worker.old worker.new (sym worker.old_so ∙ worker.new_so) in
     subst (λ (new : StoreTold). Grew worker.old new) same (grew_not worker.old)
@@ -198,10 +198,6 @@ pub names_long : (before now : DeskTold) (garbling : Garbling) (fresh : List (Li
 names_long before now garbling fresh called sinks has =
     ap (λ (l : List (List ℕ)). length l) has.named ∙ count_files garbling.stream.now 0 (length garbling.rooms.items)
     ∙ sym (opened_count before garbling.rooms.items sinks has.handed)
-  where
-    count_files : (stem : List ℕ) (first count : ℕ) → length (worker_files stem first count) ≡ count
-    count_files stem first zero = refl
-    count_files stem first (suc count) = ap suc (count_files stem (first + 1) count)
 
 -- what is lent once opening them failed
 pub lent_unopened : (before lent opened : DeskTold) (garbling : Garbling) (fresh : List (List StoreTold)) → HasLent 16 before garbling.parts.items fresh lent

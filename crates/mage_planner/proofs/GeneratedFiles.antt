@@ -8,7 +8,8 @@ use Rattle.mage_gen.specs.Generator.{IsOrder}
 use Rattle.mage_gen.proofs.OrderTexts.{source_is_short, garbler_is_short, evaluator_is_short}
 use Rattle.mage_lex.specs.Limits.{MOST_BYTES}
 use Rattle.mage_words.specs.Words.{Solo, Stats, GenRequest, GenIsInRange}
-use Rattle.mage_planner.specs.Outcome.{File, Long, Held, INPUT_LIMIT, file_of, nothing_found, order_of, source_file, garbler_file, evaluator_file, found_in, found_for_gen, solo_for, stats_for}
+use Rattle.mage_planner.specs.Outcome.{order_of, source_file, garbler_file, evaluator_file, found_for_gen, solo_for, stats_for}
+use Rattle.mage_planner.specs.Found.{File, Long, Held, INPUT_LIMIT, file_of, nothing_found, found_in}
 use Rattle.mage_planner.specs.Finding.{GeneratedFilesAreFound}
 use Rattle.mage_planner.proofs.WritingLemmas.{names_it, off}
 

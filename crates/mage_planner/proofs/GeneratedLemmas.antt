@@ -18,7 +18,8 @@ use Rattle.mage_texts.specs.InputText.{inputs_of}
 use Rattle.mage_words.specs.Words.{SoloRequest, StatsRequest, GenRequest}
 use Rattle.mage_planner.specs.declared.refusal.Refusal.{Refusal}
 use Rattle.mage_planner.specs.declared.work.Generating.{Generating}
-use Rattle.mage_planner.specs.Outcome.{Done, Found, Held, NewFile, says, or_language, or_line, source_of, numbers_of, program_for, costs_of, ending_file, order_of, found_for_gen, solo_for, stats_for, generated_files, generates, solo_outcome, stats_outcome, gen_outcome}
+use Rattle.mage_planner.specs.Outcome.{Done, NewFile, says, or_language, or_line, source_of, numbers_of, program_for, costs_of, ending_file, order_of, found_for_gen, solo_for, stats_for, generated_files, generates, solo_outcome, stats_outcome, gen_outcome}
+use Rattle.mage_planner.specs.Found.{Found, Held}
 use Rattle.mage_planner.specs.Steps.{Refuses}
 use Rattle.mage_planner.specs.SummaryText.{summary_text}
 use Rattle.mage_planner.specs.Work.{AreMade, GivesSo, IsGenerationOf, IsRunOf, files_by}

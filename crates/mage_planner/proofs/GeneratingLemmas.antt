@@ -1,5 +1,5 @@
 -- Files are written, and then a run's text is said behind a summary.
-use Rattle.std.proofs.Common.{◌≡◌, ◌≤◌, ◌++◌, inl, inr, ℕ, List, [], ◌∷◌, length, Option, Result, Ok, Err, refl, sym, ap, subst, ◌∙◌, arith}
+use Rattle.std.proofs.Common.{◌≡◌, ◌≤◌, ◌++◌, inl, inr, ℕ, List, [], ◌∷◌, length, Option, None, Result, Ok, Err, refl, sym, ap, subst, ◌∙◌, arith}
 use Rattle.std.specs.Prelude.{codes}
 use Rattle.mage_base.specs.declared.failure.Damage.{Damage}
 use Rattle.mage_base.specs.Desk.{DeskTold, Files, Returned}
@@ -7,23 +7,30 @@ use Rattle.mage_base.specs.Store.{StoreTold}
 use Rattle.mage_planner.specs.declared.refusal.Refusal.{Refusal}
 use Rattle.mage_planner.specs.declared.refusal.Refusal.TheVariants as refusal
 use Rattle.mage_planner.specs.Outcome.{Done, NewFile, ending_file, generates}
-use Rattle.mage_planner.specs.Answer.{Finishes, BreaksOff, Ceases, Closes, OthersStay, StreamsBegin, Returns, StoresAreSound, with_files}
+use Rattle.mage_planner.specs.Answer.{Finishes, BreaksOff, Ceases, Closes, OthersStay, ReadsThese, StreamsBegin, Returns, StoresAreSound, with_files}
 use Rattle.mage_planner.specs.Ran.{Ran}
 use Rattle.mage_planner.specs.Stores.{AreOfDesk, GivesBack, HasDamaged, IsRight, WereDeceived}
 use Rattle.mage_planner.specs.Writing.{Performs, Writes}
 use Rattle.mage_planner.proofs.PerformLemmas.{all_stay, back_files, none_back, none_closed, unnamed, unwritten}
-use Rattle.mage_planner.proofs.RanLemmas.{all_sound, still_sound}
+use Rattle.mage_planner.proofs.HaltedLemmas.{all_sound, still_sound}
 use Rattle.mage_planner.proofs.BegunLemmas.{quiet_begun}
 use Rattle.mage_planner.proofs.WritingLemmas.{SoFar, first_stay, one_more_file, stopped_file}
 
 -- ---- behind a summary
 
-pub ran_behind : (summary : List ℕ) (done : Done) (text : List ℕ) (before after : DeskTold) → Ran done text before after
+pub ran_behind : (summary : List ℕ) (done : Done) (text : List ℕ) (before after : DeskTold) → done.reads ≡ None → Ran done text before after
     → Ran (generates [] summary done) (summary ++ text) before after
-ran_behind summary done text before after ran = record { shelves = ran.shelves; moved = ran.moved; given = ran.given; right = go ran.right } where
-  go : IsRight before ran.shelves done.said text → IsRight before ran.shelves (summary ++ done.said) (summary ++ text)
-  go (inl same) = inl (ap (λ (t : List ℕ). summary ++ t) same)
-  go (inr deceived) = inr deceived
+ran_behind summary done text before after unread ran = record {
+  shelves = ran.shelves;
+  moved = ran.moved;
+  given = ran.given;
+  right = λ own. go (ran.right (subst (ReadsThese before.files) (sym unread) tt));
+  sound = λ own. inl tt;
+}
+  where
+    go : IsRight before ran.shelves done.said text → IsRight before ran.shelves (summary ++ done.said) (summary ++ text)
+    go (inl same) = inl (ap (λ (t : List ℕ). summary ++ t) same)
+    go (inr deceived) = inr deceived
 
 -- ---- three files
 
@@ -164,7 +171,7 @@ module _ (files : List NewFile) (before : DeskTold) where
   ceases_before shelves between after given ceases = record { files = stay_before shelves between after.files given ceases.files; rest = ceases.rest }
 
   module _ (summary : List ℕ) (run : Done) (after : DeskTold) where
-    stopped_begun : (shelves : List (List StoreTold)) (between stopped : DeskTold) → GivesBack shelves wrote between → Ceases [] between stopped → Closes [] stopped after
+    stopped_begun : (shelves : List (List StoreTold)) (between stopped : DeskTold) → GivesBack shelves wrote between → Ceases [] between stopped → Closes [] None stopped after
         → StreamsBegin (Ok (generates files summary run)) before shelves after
     stopped_begun shelves between stopped given ceases closes =
         quiet_begun (generates files summary run) before after shelves refl
@@ -179,7 +186,8 @@ module _ (files : List NewFile) (before : DeskTold) where
           between = unwrote does.between;
           given = given_before does.shelves does.between does.given;
           text = does.text;
-          right = right_before does.shelves (summary ++ run.said) does.text does.right;
+          right = λ own. right_before does.shelves (summary ++ run.said) does.text (does.right tt);
+          sound = λ own. inl tt;
           filled = [];
           right_streams = inl refl;
           named = refl;
@@ -191,7 +199,7 @@ module _ (files : List NewFile) (before : DeskTold) where
       between = unwrote fails.between;
       returns = returns_before (length run.moves) fails.shelves fails.between fails.returns;
       text = fails.text;
-      right = right_before fails.shelves (summary ++ run.said) fails.text fails.right;
+      right = λ own. right_before fails.shelves (summary ++ run.said) fails.text (fails.right tt);
       breaks = breaks_before fails.text fails.shelves fails.between after fails.returns.given fails.breaks;
       fronts = quiet_begun (generates files summary run) before after fails.shelves refl
           (stay_before fails.shelves fails.between after.files fails.returns.given fails.breaks.files);
@@ -232,6 +240,7 @@ module _ (files : List NewFile) (before : DeskTold) where
         fronts = stopped_begun damages.1.shelves damages.1.between damages.1.stopped damages.1.returns.given damages.1.ceases damages.1.closes;
       },
     )
+    performs_so (Err (refusal.Stream worker fault)) misreads = let reads = misreads.1.reads in absurd (cc)
     performs_so (Err other) none = absurd none
 
 -- the files are written, and the rest is done
@@ -248,7 +257,7 @@ not_written files summary run refusal.Desk before after wrote = record {
   between = before;
   returns = record { few = omega arith; given = none_back before };
   text = summary ++ run.said;
-  right = inl refl;
+  right = λ own. inl refl;
   breaks = unwritten files (summary ++ run.said) refusal.Desk before after wrote;
   fronts = quiet_begun (generates files summary run) before after [] refl wrote.files;
 }
@@ -258,7 +267,7 @@ not_written files summary run refusal.Memory before after wrote = record {
   returns = record { few = omega arith; given = none_back before };
   stopped = after;
   ceases = unwritten files [] refusal.Memory before after wrote;
-  closes = none_closed [] after;
+  closes = none_closed [] None after;
   fronts = quiet_begun (generates files summary run) before after [] refl wrote.files;
 }
 not_written files summary run other before after wrote = absurd wrote

@@ -9,6 +9,7 @@ mod UpgradeLemmas
 mod CarriedLemmas
 mod SoloLemmas
 mod RunLemmas
+mod HaltedLemmas
 mod RanLemmas
 mod GarbleLemmas
 mod StreamLemmas
@@ -18,3 +19,11 @@ mod SteadyLemmas
 mod GeneratedLemmas
 mod GeneratingLemmas
 mod GeneratedFiles
+mod LabelFileLemmas
+mod EvalLemmas
+mod DealtLemmas
+mod ReadsLemmas
+mod StreamFaultLemmas
+mod EvaluatedLemmas
+mod EvaluatingLemmas
+mod SaysPlainLemmas

@@ -7,10 +7,10 @@ use Rattle.mage_base.specs.Store.{StoreTold}
 use Rattle.mage_source_runs.specs.Moves.{Moves}
 use Rattle.mage_planner.specs.declared.refusal.Refusal.{Refusal}
 use Rattle.mage_planner.specs.declared.refusal.Refusal.TheVariants as refusal
-use Rattle.mage_planner.specs.Outcome.{Done, NewFile, says_and_writes}
+use Rattle.mage_planner.specs.Outcome.{Done, NewFile, Reading, says_and_writes}
 use Rattle.mage_planner.specs.Steps.{IsNoDeskFault, IsNotDesk, WorkCounted, RefusalCounted, Refuses}
 use Rattle.mage_planner.specs.Stores.{GivesBack, HaveMoved}
-use Rattle.mage_planner.specs.Answer.{Works, Ceases, Closes, HasRoom, TellsStores, OthersStay, files_of, streams_of, text_of, with_files}
+use Rattle.mage_planner.specs.Answer.{Works, Ceases, Closes, HasRoom, NothingIsWrong, ReadsThese, TellsStores, OthersStay, StreamsAreRight, files_of, reads_of, streams_of, text_of, with_files}
 use Rattle.mage_planner.specs.Warned.{Grows}
 use Rattle.mage_planner.specs.Writing.{Finished, Performs, Writes}
 use Rattle.mage_planner.proofs.WritingLemmas.{one_stays, none_stays, grows_front}
@@ -68,8 +68,8 @@ pub none_back : (before : DeskTold) → GivesBack [] before before
 none_back before = record { own = tt; back = record { lent = record { often = λ id. refl; same = λ none. refl }; rest = refl } }
 
 -- no stream was closed
-pub none_closed : (streams : List NewFile) (desk : DeskTold) → Closes streams desk desk
-none_closed streams desk = record { rises = omega arith; calm = λ none. refl; rest = refl }
+pub none_closed : (streams : List NewFile) (reads : Option Reading) (desk : DeskTold) → Closes streams reads desk desk
+none_closed streams reads desk = record { rises = omega arith; calm = λ none unread. refl; rest = refl }
 
 -- where no store was asked for, nothing is given back
 back_none : (shelves : List (List StoreTold)) (before after : DeskTold) → length shelves ≡ 0 → GivesBack shelves before after
@@ -93,7 +93,7 @@ moved_count (own ∷ moves) ((store ∷ next ∷ others) ∷ shelves) moved = ab
 module _ (done : Done) (before after : DeskTold) where
   -- the count of faults
   ceased_count : (shelves : List (List StoreTold)) (between stopped : DeskTold) (written streams : List NewFile) → GivesBack shelves before between
-      → Ceases written between stopped → Closes streams stopped after → stopped.faults ≡ before.faults
+      → Ceases written between stopped → Closes streams done.reads stopped after → stopped.faults ≡ before.faults
   ceased_count shelves between stopped written streams given ceases closes =
       ap (λ (desk : DeskTold). desk.faults) ceases.rest ∙ back_faults shelves before between given
 
@@ -111,21 +111,24 @@ module _ (done : Done) (before after : DeskTold) where
   counts (Err (refusal.Damaged worker damage)) damages =
       risen damages.1.stopped.faults (ceased_count damages.1.shelves damages.1.between damages.1.stopped _ _ damages.1.returns.given damages.1.ceases damages.1.closes)
       damages.1.closes.rises
+  counts (Err (refusal.Stream worker fault)) misreads =
+      risen misreads.1.between.faults (back_faults misreads.1.shelves before misreads.1.between misreads.1.returns.given) misreads.1.rises
   counts (Err other) none = absurd none
 
   -- without streams only the desk's fault raises it
-  pub calm_counts : (r : Result (Unit {0}) Refusal) → done.streams ≡ [] → Performs done r before after → IsNoDeskFault r → after.faults ≡ before.faults
-  calm_counts (Ok x) none does not = counts (Ok x) does
-  calm_counts (Err refusal.Memory) none stops not =
-      stops.closes.calm none ∙ ceased_count stops.shelves stops.between stops.stopped _ _ stops.returns.given stops.ceases stops.closes
-  calm_counts (Err refusal.Desk) none performs not = absurd not
-  calm_counts (Err (refusal.Store worker)) none performs not = absurd not
-  calm_counts (Err (refusal.Damaged worker damage)) none performs not = absurd not
-  calm_counts (Err other) none performs not = absurd performs
+  pub calm_counts : (r : Result (Unit {0}) Refusal) → done.streams ≡ [] → done.reads ≡ None → Performs done r before after → IsNoDeskFault r → after.faults ≡ before.faults
+  calm_counts (Ok x) none unread does not = counts (Ok x) does
+  calm_counts (Err refusal.Memory) none unread stops not =
+      stops.closes.calm none unread ∙ ceased_count stops.shelves stops.between stops.stopped _ _ stops.returns.given stops.ceases stops.closes
+  calm_counts (Err refusal.Desk) none unread performs not = absurd not
+  calm_counts (Err (refusal.Store worker)) none unread performs not = absurd not
+  calm_counts (Err (refusal.Damaged worker damage)) none unread performs not = absurd not
+  calm_counts (Err (refusal.Stream worker fault)) none unread performs not = absurd not
+  calm_counts (Err other) none unread performs not = absurd performs
 
   -- stores are back, and then files were written or not
   ceased : (shelves : List (List StoreTold)) (between stopped : DeskTold) (written streams : List NewFile) → GivesBack shelves before between → Ceases written between stopped
-      → Closes streams stopped after → Frame before after
+      → Closes streams done.reads stopped after → Frame before after
   ceased shelves between stopped written streams given ceases closes =
       joined_frames before between after (back_frame shelves before between given)
       (joined_frames between stopped after
@@ -144,6 +147,9 @@ module _ (done : Done) (before after : DeskTold) where
       ceased breaks.1.shelves breaks.1.between breaks.1.stopped (files_of (Ok done)) done.streams breaks.1.returns.given breaks.1.ceases breaks.1.closes
   changes (Err (refusal.Damaged worker damage)) damages =
       ceased damages.1.shelves damages.1.between damages.1.stopped (files_of (Ok done)) done.streams damages.1.returns.given damages.1.ceases damages.1.closes
+  changes (Err (refusal.Stream worker fault)) misreads =
+      joined_frames before misreads.1.between after (back_frame misreads.1.shelves before misreads.1.between misreads.1.returns.given)
+      (framed misreads.1.between after misreads.1.between.files misreads.1.between.said after.faults misreads.1.between.room misreads.1.between.lent misreads.1.between.returned misreads.1.rest)
   changes (Err other) none = absurd none
 
   -- a command without files leaves them
@@ -158,7 +164,7 @@ module _ (done : Done) (before after : DeskTold) where
       ∙ back_files shelves before between given
 
   none_ceased : (shelves : List (List StoreTold)) (between stopped : DeskTold) → GivesBack shelves before between → Ceases (files_of (Ok done)) between stopped
-      → Closes done.streams stopped after → IsBare done → after.files ≡ before.files
+      → Closes done.streams done.reads stopped after → IsBare done → after.files ≡ before.files
   none_ceased shelves between stopped given ceases closes bare =
       ap (λ (desk : DeskTold). desk.files) closes.rest ∙ none_written shelves between stopped given ceases.files bare
 
@@ -173,6 +179,8 @@ module _ (done : Done) (before after : DeskTold) where
       none_ceased breaks.1.shelves breaks.1.between breaks.1.stopped breaks.1.returns.given breaks.1.ceases breaks.1.closes bare
   leaves_files (Err (refusal.Damaged worker damage)) damages bare =
       none_ceased damages.1.shelves damages.1.between damages.1.stopped damages.1.returns.given damages.1.ceases damages.1.closes bare
+  leaves_files (Err (refusal.Stream worker fault)) misreads bare =
+      ap (λ (desk : DeskTold). desk.files) misreads.1.rest ∙ back_files misreads.1.shelves before misreads.1.between misreads.1.returns.given
   leaves_files (Err other) performs bare = absurd performs
 
   -- a command that asks for no store leaves what came of others
@@ -201,6 +209,8 @@ module _ (done : Done) (before after : DeskTold) where
       let inside = breaks.0 in let count = ap (λ (moves : List Moves). length moves) none in absurd (omega (arith, inside, count))
   leaves_stores (Err (refusal.Damaged worker damage)) damages none =
       let inside = damages.0 in let count = ap (λ (moves : List Moves). length moves) none in absurd (omega (arith, inside, count))
+  leaves_stores (Err (refusal.Stream worker fault)) misreads none =
+      let inside = misreads.0 in let count = ap (λ (moves : List Moves). length moves) none in absurd (omega (arith, inside, count))
   leaves_stores (Err other) performs none = absurd performs
 
   -- it is what the work comes to
@@ -211,6 +221,7 @@ module _ (done : Done) (before after : DeskTold) where
   works steady outcome (Err refusal.Memory) comes stops = rw comes (tt, stops)
   works steady outcome (Err (refusal.Store worker)) comes breaks = rw comes breaks
   works steady outcome (Err (refusal.Damaged worker damage)) comes damages = rw comes damages
+  works steady outcome (Err (refusal.Stream worker fault)) comes misreads = rw comes ((misreads.0, misreads.1.reads), misreads.1)
   works steady outcome (Err other) comes none = absurd none
 
 module _ (before after : DeskTold) (Is : Done → Type 0) where
@@ -222,10 +233,14 @@ module _ (before after : DeskTold) (Is : Done → Type 0) where
 
   pub steady_told : (files : Option Files) (outcome : Files → Result Done Refusal) (r : Result (Unit {0}) Refusal) →
       IfSome files (λ told. (done : Done) × Is done × (outcome told ≡ Ok done)) →
-      ((done : Done) → Is done → IsSome files → (done.moves ≢ [] → IsTrue before.stores_tell_pages) → length done.said ≤ before.room → IsNoDeskFault r × (after.faults ≡ before.faults)) →
-      IfSome files (λ told. IsNoDeskFault (outcome told) → HasRoom before (outcome told) → TellsStores before (outcome told) → IsNoDeskFault r × (after.faults ≡ before.faults))
-  steady_told None outcome r comes steady = tt
-  steady_told (Some told) outcome r comes steady = λ found has tells. steady comes.0 comes.1 refl (rw comes.2 at tells) (rw comes.2 at has)
+      ((done : Done) → Is done → IsSome files → (done.moves ≢ [] → IsTrue before.stores_tell_pages) → ReadsThese files done.reads → NothingIsWrong (length done.moves) done.reads → length done.said ≤ before.room
+      → IsNoDeskFault r × (after.faults ≡ before.faults)) →
+      ((told : Files) (done : Done) → outcome told ≡ Ok done → ReadsThese (Some told) done.reads) →
+      IfSome files (λ told. IsNoDeskFault (outcome told) → HasRoom before (outcome told) → TellsStores before (outcome told) → StreamsAreRight (outcome told)
+      → IsNoDeskFault r × (after.faults ≡ before.faults))
+  steady_told None outcome r comes steady reads = tt
+  steady_told (Some told) outcome r comes steady reads = λ found has tells fine.
+      steady comes.0 comes.1 refl (rw comes.2 at tells) (reads told comes.0 comes.2) (rw comes.2 at fine) (rw comes.2 at has)
 
 -- what is done without a store
 pub without_stores : (text : List ℕ) (files : List NewFile) (r : Result (Unit {0}) Refusal) (before after : DeskTold) →
@@ -236,7 +251,8 @@ without_stores text files (Ok x) before after finishes = record {
   between = before;
   given = none_back before;
   text = text;
-  right = inl refl;
+  right = λ own. inl refl;
+  sound = λ own. inl tt;
   filled = [];
   right_streams = inl refl;
   named = refl;
@@ -247,7 +263,7 @@ without_stores text files (Err refusal.Desk) before after breaks = record {
   between = before;
   returns = record { few = omega arith; given = none_back before };
   text = text;
-  right = inl refl;
+  right = λ own. inl refl;
   breaks = breaks;
   fronts = quiet_begun (says_and_writes text files) before after [] refl breaks.files;
 }
@@ -257,22 +273,23 @@ without_stores text files (Err refusal.Memory) before after ceases = record {
   returns = record { few = omega arith; given = none_back before };
   stopped = after;
   ceases = ceases;
-  closes = none_closed [] after;
+  closes = none_closed [] None after;
   fronts = quiet_begun (says_and_writes text files) before after [] refl ceases.files;
 }
 without_stores text files (Err other) before after none = absurd none
 
 -- the same of work that does this
-pub work_without_stores : (done x : Done) (r : Result (Unit {0}) Refusal) (before after : DeskTold) → x.moves ≡ [] → x.streams ≡ [] → done ≡ x → Finished x.said x.files r before after → Performs done r before after
-work_without_stores done x r before after none none_too same finished =
+pub work_without_stores : (done x : Done) (r : Result (Unit {0}) Refusal) (before after : DeskTold) → x.moves ≡ [] → x.streams ≡ [] → x.reads ≡ None → done ≡ x → Finished x.said x.files r before after → Performs done r before after
+work_without_stores done x r before after none none_too unread same finished =
     subst (λ (d : Done). Performs d r before after)
-    (ap₂ (λ (moves : List Moves) (streams : List NewFile). record { said = x.said; files = x.files; streams = streams; moves = moves }) (sym none) (sym none_too) ∙ sym same)
+    (ap₂ (λ (moves : List Moves) (streams : List NewFile). record { said = x.said; files = x.files; streams = streams; moves = moves; reads = None }) (sym none) (sym none_too)
+    ∙ ap (λ (reads : Option Reading). record { said = x.said; files = x.files; streams = x.streams; moves = x.moves; reads = reads }) (sym unread) ∙ sym same)
     (without_stores x.said x.files r before after finished)
 
 -- nothing failed, and no fault was counted
-pub calm_too : (done : Done) (before after : DeskTold) (r : Result (Unit {0}) Refusal) → done.streams ≡ [] → Performs done r before after → IsNoDeskFault r
+pub calm_too : (done : Done) (before after : DeskTold) (r : Result (Unit {0}) Refusal) → done.streams ≡ [] → done.reads ≡ None → Performs done r before after → IsNoDeskFault r
     → IsNoDeskFault r × (after.faults ≡ before.faults)
-calm_too done before after r none performs not = (not, calm_counts done before after r none performs not)
+calm_too done before after r none unread performs not = (not, calm_counts done before after r none unread performs not)
 
 -- what a step of the work refuses isn't the desk's fault, where the desk is steady and the work doesn't come to it
 pub refused_steady : (steady : Bool) (why : Refusal) (outcome : Result Done Refusal) (before after : ℕ) → IsTrue steady → Refuses steady why outcome
@@ -283,6 +300,8 @@ refused_steady steady refusal.Memory outcome before after sure refuses counted n
 refused_steady steady (refusal.Store worker) outcome before after sure refuses counted not =
     absurd (subst (λ (o : Result Done Refusal). IsNoDeskFault o) refuses not)
 refused_steady steady (refusal.Damaged worker damage) outcome before after sure refuses counted not =
+    absurd (subst (λ (o : Result Done Refusal). IsNoDeskFault o) refuses not)
+refused_steady steady (refusal.Stream worker fault) outcome before after sure refuses counted not =
     absurd (subst (λ (o : Result Done Refusal). IsNoDeskFault o) refuses not)
 refused_steady steady why outcome before after sure refuses counted not = (tt, counted)
 
@@ -306,7 +325,7 @@ refused steady outcome refusal.Desk before after none refuses counted rest = (
     between = before;
     returns = record { few = omega arith; given = none_back before };
     text = text_of outcome;
-    right = inl refl;
+    right = λ own. inl refl;
     breaks = record {
       said = subst (λ (s : Option (List ℕ)). Grows before.said s (λ old new. (n : ℕ) × (new ≡ old ++ take n (text_of outcome)))) (sym (ap (λ (desk : DeskTold). desk.said) rest)) (grows_front before.said (text_of outcome));
       files = subst (λ (f : Option Files). OthersStay (files_of outcome) before.files f) (sym (ap (λ (desk : DeskTold). desk.files) rest)) (none_stays (files_of outcome) before.files);
@@ -328,12 +347,13 @@ refused steady outcome refusal.Memory before after none refuses counted rest =
         returns = record { few = omega arith; given = none_back before };
         stopped = after;
         ceases = rw same (record { files = none_stays (files_of outcome) before.files; rest = refl });
-        closes = none_closed (streams_of outcome) after;
+        closes = none_closed (streams_of outcome) (reads_of outcome) after;
         fronts = nothing_begun outcome before after [] (ap (λ (desk : DeskTold). desk.files) rest);
       },
     )
 refused steady outcome (refusal.Store worker) before after none refuses counted rest = absurd (none tt refuses)
 refused steady outcome (refusal.Damaged worker damage) before after none refuses counted rest = absurd (none tt refuses)
+refused steady outcome (refusal.Stream worker fault) before after none refuses counted rest = absurd (none tt refuses)
 refused steady outcome why before after none refuses counted rest = (refuses, unread before after rest counted)
 
 -- ---- a file, and then a text

@@ -16,7 +16,8 @@ use Rattle.mage_lex.specs.Limits.{MOST_BYTES}
 use Rattle.mage_words.specs.Words.{PlanRequest, Check, CheckRequest, UpgradeRequest}
 use Rattle.mage_planner.specs.declared.refusal.Refusal.{Refusal}
 use Rattle.mage_planner.specs.declared.refusal.Refusal.TheVariants as refusal
-use Rattle.mage_planner.specs.Outcome.{File, Absent, Found, file_at, found_in, nothing_found, Done, says, says_and_writes, plans, source_of, costs_of, or_limits, program_of, carry_of, carried_or, first_program_of, renamed_of, upgrades, plan_outcome, check_outcome, upgrade_outcome}
+use Rattle.mage_planner.specs.Outcome.{Done, says, says_and_writes, plans, source_of, costs_of, or_limits, program_of, carry_of, carried_or, first_program_of, renamed_of, upgrades, plan_outcome, check_outcome, upgrade_outcome}
+use Rattle.mage_planner.specs.Found.{File, Absent, Found, file_at, found_in, nothing_found}
 use Rattle.mage_planner.specs.SummaryText.{summary_text}
 use Rattle.mage_planner.specs.Steps.{Refuses}
 use Rattle.mage_planner.proofs.StepLemmas.{only_source, at_first, after_first, both_done}

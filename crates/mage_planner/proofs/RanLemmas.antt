@@ -1,13 +1,13 @@
 -- What a run of a source's memory program comes to.
-use Rattle.std.proofs.Common.{◌≡◌, ◌≢◌, ◌<◌, ◌≤◌, ◌+◌, ◌++◌, ◌⊎◌, inl, inr, ℕ, zero, suc, List, [], ◌∷◌, length, map, nat_lt, Bool, true, false, cond, IsTrue, Option, Vec, Result, Ok, Err, refl, sym, ap, ap₂, subst, ◌∙◌, arith}
-use Rattle.std.specs.Prelude.{◌^◌, ◌*◌, replicate, IfSome, slice_get, IfOk, IfErr, OnOk, slice_index, take}
+use Rattle.std.proofs.Common.{◌≡◌, ◌≢◌, ◌<◌, ◌≤◌, ◌+◌, ◌++◌, ◌⊎◌, inl, inr, ℕ, zero, suc, List, [], ◌∷◌, length, map, nat_lt, Bool, true, false, cond, None, Vec, Result, Ok, Err, refl, sym, ap, ap₂, subst, ◌∙◌, arith}
+use Rattle.std.specs.Prelude.{◌^◌, ◌*◌, replicate, IfSome, slice_get, IfOk, IfErr, OnOk, slice_index}
 use Rattle.std.specs.List.{All, AllZip, slice_index_or}
 use Rattle.std.proofs.lemmas.Bool.{ltb-true, ltb-false}
 use Rattle.std.specs.declared.alloc.Global.{Global}
 use Rattle.std.proofs.lemmas.List.{length-map}
 use Rattle.std.proofs.Math.Path.{fun_ext}
 use Rattle.std.proofs.Math.Pow.{pow_mono}
-use Rattle.mage_base.specs.Desk.{DeskTold, Files, Returned, StoreId}
+use Rattle.mage_base.specs.Desk.{DeskTold, Returned, StoreId}
 use Rattle.mage_base.specs.Faults.{Rose}
 use Rattle.mage_base.specs.Store.{StoreTold, new_store}
 use Rattle.mage_instr.specs.declared.directive.Directive.{Directive}
@@ -51,17 +51,14 @@ use Rattle.mage_source_runs.proofs.Running.{sources_can_be_run}
 use Rattle.mage_planner.specs.declared.refusal.Refusal.{Refusal}
 use Rattle.mage_planner.specs.declared.refusal.Refusal.TheVariants as refusal
 use Rattle.mage_planner.specs.declared.work.Running.{Running}
-use Rattle.mage_planner.specs.Outcome.{Done, NewFile, said_of}
+use Rattle.mage_planner.specs.Outcome.{Done, said_of}
 use Rattle.mage_planner.specs.Stores.{AreOfDesk, GivesBack, HaveMoved, IsRight}
-use Rattle.mage_planner.specs.Answer.{Finishes, BreaksOff, Ceases, StoresAreSound, StreamsBegin, OthersStay}
-use Rattle.mage_planner.specs.Warned.{Grows}
-use Rattle.mage_planner.specs.Writing.{Finished, Interrupts, Performs}
+use Rattle.mage_planner.specs.Answer.{StoresAreSound, NothingIsWrong}
 use Rattle.mage_planner.specs.Steps.{IsNotDesk}
 use Rattle.mage_planner.specs.Work.{CanBeRun, IsRunOf}
-use Rattle.mage_planner.specs.Ran.{orders_of, HasLent, LendsSo, EndsSo, Halted, IsUnbroken, Ran, RanSo}
-use Rattle.mage_planner.proofs.PerformLemmas.{all_stay, back_files, moved_count, none_back, none_closed}
-use Rattle.mage_planner.proofs.BegunLemmas.{nothing_begun}
-use Rattle.mage_planner.proofs.WritingLemmas.{both_all, grows_front, none_stays}
+use Rattle.mage_planner.specs.Ran.{orders_of, HasLent, LendsSo, EndsSo, Halted, IsUnbroken}
+use Rattle.mage_planner.proofs.PerformLemmas.{none_back}
+use Rattle.mage_planner.proofs.WritingLemmas.{both_all}
 use Rattle.mage_planner.proofs.RunLemmas.{moves_of_parts, one_all, sound_back, sound_used, sound_unused, given, as_many, has_broken, has_damaged, were_deceived, rose, broken_inside, damaged_inside, all_moved}
 
 -- ---- inputs that fit the widths of a program fit each worker's instructions
@@ -87,7 +84,7 @@ widths_at whose [] n = refl
 widths_at whose (own ∷ workers) zero = refl
 widths_at whose (own ∷ workers) (suc n) = widths_at whose workers n
 
-party_fits : (whose : Party) (count : ℕ) (emitted : List Emitted) (numbers : List (List ℕ)) → FitWidths (input_widths_of whose (program_of count emitted)) numbers
+pub party_fits : (whose : Party) (count : ℕ) (emitted : List Emitted) (numbers : List (List ℕ)) → FitWidths (input_widths_of whose (program_of count emitted)) numbers
     → (n : ℕ) → n < count → Fit (list_at numbers n) (widths_in whose (own_instrs emitted n))
 party_fits whose count emitted numbers fit n inside =
     subst (λ (widths : List ℕ). Fit (list_at numbers n) widths)
@@ -103,6 +100,10 @@ moves_from limits stores w [] = refl
 moves_from limits stores w (part ∷ workers) =
     ap (λ (others : List Moves). record { reads = length (flat_map page_read part); writes = length (flat_map page_written part) } ∷ others)
     (moves_from limits stores (w + 1) workers)
+
+-- a run reads no stream
+pub nothing_read : (running : Running) (done : Done) → IsRunOf running done → done.reads ≡ None
+nothing_read running done is = ap (λ (d : Done). d.reads) is.is
 
 module _ (running : Running) (done : Done) (is : IsRunOf running done) where
   source : RunsSource is.loaded is.plan
@@ -158,7 +159,8 @@ module _ (running : Running) (done : Done) (is : IsRunOf running done) where
         shelves = shelves;
         moved = subst (λ (moves : List Moves). HaveMoved moves shelves) (sym moves_are) (all_moved 1 before after all_parts fresh shelves lent shape grown back verified moved);
         given = given 1 before after all_parts fresh shelves lent shape grown back;
-        right = right (lists_of outputs.items) (said is.plan source.count source.emitted source.accepted.fields is.parts source.carries can_run);
+        right = λ own. right (lists_of outputs.items) (said is.plan source.count source.emitted source.accepted.fields is.parts source.carries can_run);
+        sound = λ own. inl (subst (NothingIsWrong (length done.moves)) (sym (nothing_read running done is)) tt);
       }
       ends (Err (fault.Store worker)) verified moved stops said =
           let broken = has_broken 1 before after all_parts fresh shelves lent shape grown back worker stops in
@@ -344,178 +346,6 @@ some_moves running done can is none =
     let count = moves_count running done is in
     let some = some_parts running.parts.items can.verified in
     absurd (omega (arith, many, count, some))
-
--- ---- its text
-
-pub said_so : (done : Done) (said text : List ℕ) (before after : DeskTold) → text ≡ said → Ran done said before after → Ran done text before after
-said_so done said text before after same ran = subst (λ (t : List ℕ). Ran done t before after) (sym same) ran
-
--- there was no memory for it
-pub unsaid : (done : Done) (said : List ℕ) (before after : DeskTold) → Ran done said before after → Halted (length done.moves) refusal.Memory before after
-unsaid done said before after ran =
-    let many = moved_count done.moves ran.shelves ran.moved in
-    record {
-      shelves = ran.shelves;
-      between = after;
-      returns = record { few = omega (arith, many); given = ran.given };
-      cause = tt;
-      rest = refl;
-      faults = refl;
-    }
-
-pub text_ran : (done : Done) (said : List ℕ) (r : Result (Vec ℕ Global) Refusal) → IfOk r (λ text. text.items ≡ said) → IfErr r (λ why. why ≡ refusal.Memory)
-    → (before after : DeskTold) → Ran done said before after → RanSo done r before after
-text_ran done said (Ok text) same memory before after ran = said_so done said text.items before after same ran
-text_ran done said (Err why) same memory before after ran = subst (λ (w : Refusal). Halted (length done.moves) w before after) (sym memory) (unsaid done said before after ran)
-
--- ---- what stops a run stops the command
-
--- the desk as it was but for its count of faults
-module _ (between after : DeskTold) (rest : after ≡ record between { faults = after.faults }) where
-  files_same : after.files ≡ between.files
-  files_same = ap (λ (desk : DeskTold). desk.files) rest
-
-  none_ceases : (written : List NewFile) → after.faults ≡ between.faults → Ceases written between after
-  none_ceases written same = record {
-    files = subst (λ (f : Option Files). OthersStay written between.files f) (sym files_same) (none_stays written between.files);
-    rest = rest ∙ ap₂ (λ (n : ℕ) (f : Option Files). record between { faults = n; files = f }) same (sym files_same);
-  }
-
-  none_breaks : (text : List ℕ) (written : List NewFile) → between.faults ≤ after.faults → Rose between.faults after.faults → BreaksOff text written between after
-  none_breaks text written rises rose = record {
-    said = subst (λ (s : Option (List ℕ)). Grows between.said s (λ old new. (n : ℕ) × (new ≡ old ++ take n text))) (sym (ap (λ (desk : DeskTold). desk.said) rest)) (grows_front between.said text);
-    files = subst (λ (f : Option Files). OthersStay written between.files f) (sym files_same) (none_stays written between.files);
-    rises = rises;
-    rose = rose;
-    rest = rest ∙ ap (λ (f : Option Files). record between { files = f; faults = after.faults }) (sym files_same)
-        ∙ ap₂ (λ (s : Option (List ℕ)) (n : ℕ). record between { files = after.files; said = s; faults = after.faults; room = n })
-        (sym (ap (λ (desk : DeskTold). desk.said) rest)) (sym (ap (λ (desk : DeskTold). desk.room) rest));
-  }
-
--- no stream was begun
-halted_begun : (done : Done) (why : Refusal) (before after : DeskTold) (h : Halted (length done.moves) why before after) → StreamsBegin (Ok done) before h.shelves after
-halted_begun done why before after h =
-    nothing_begun (Ok done) before after h.shelves (ap (λ (desk : DeskTold). desk.files) h.rest ∙ back_files h.shelves before h.between h.returns.given)
-
-pub halted : (done : Done) (why : Refusal) (before after : DeskTold) → Halted (length done.moves) why before after → Interrupts done why before after
-halted done refusal.Desk before after h = record {
-  shelves = h.shelves;
-  between = h.between;
-  returns = h.returns;
-  text = done.said;
-  right = inl refl;
-  breaks = none_breaks h.between after h.rest done.said (done.streams ++ done.files) h.faults.0 h.faults.1;
-  fronts = halted_begun done refusal.Desk before after h;
-}
-halted done refusal.Memory before after h = record {
-  shelves = h.shelves;
-  between = h.between;
-  returns = h.returns;
-  stopped = after;
-  ceases = none_ceases h.between after h.rest (done.streams ++ done.files) h.faults;
-  closes = none_closed done.streams after;
-  fronts = halted_begun done refusal.Memory before after h;
-}
-halted done (refusal.Store worker) before after h = (
-  h.cause.0,
-  record {
-    shelves = h.shelves;
-    between = h.between;
-    returns = h.returns;
-    broken = h.cause.1;
-    rose = subst (λ (r : ℕ → Returned). Rose (before.returned worker).faults (r worker).faults) (sym (ap (λ (desk : DeskTold). desk.returned) h.rest)) h.cause.2;
-    stopped = after;
-    ceases = none_ceases h.between after h.rest (done.streams ++ done.files) h.faults;
-    closes = none_closed done.streams after;
-    fronts = halted_begun done (refusal.Store worker) before after h;
-  },
-)
-halted done (refusal.Damaged worker damage) before after h = (
-  h.cause.0,
-  record {
-    shelves = h.shelves;
-    between = h.between;
-    returns = h.returns;
-    damaged = h.cause.1;
-    stopped = after;
-    ceases = none_ceases h.between after h.rest (done.streams ++ done.files) h.faults;
-    closes = none_closed done.streams after;
-    fronts = halted_begun done (refusal.Damaged worker damage) before after h;
-  },
-)
-halted done why before after h = absurd h.cause
-
--- ---- and then it is said
-
-pub ran_said : (done : Done) (text : List ℕ) (r : Result (Unit {0}) Refusal) (before between after : DeskTold) → done.streams ++ done.files ≡ [] → Ran done text before between
-    → Finished text [] r between after → Performs done r before after
-ran_said done text (Ok x) before between after none ran finishes = record {
-  shelves = ran.shelves;
-  moved = ran.moved;
-  between = between;
-  given = ran.given;
-  text = text;
-  right = ran.right;
-  filled = done.streams;
-  right_streams = inl refl;
-  named = refl;
-  finishes = subst (λ (files : List NewFile). Finishes text files between after) (sym none) finishes;
-}
-ran_said done text (Err refusal.Desk) before between after none ran breaks =
-    let many = moved_count done.moves ran.shelves ran.moved in
-    record {
-      shelves = ran.shelves;
-      between = between;
-      returns = record { few = omega (arith, many); given = ran.given };
-      text = text;
-      right = ran.right;
-      breaks = subst (λ (files : List NewFile). BreaksOff text files between after) (sym none) breaks;
-      fronts = nothing_begun (Ok done) before after ran.shelves (all_stay between.files after.files breaks.files ∙ back_files ran.shelves before between ran.given);
-    }
-ran_said done text (Err refusal.Memory) before between after none ran ceases =
-    let many = moved_count done.moves ran.shelves ran.moved in
-    record {
-      shelves = ran.shelves;
-      between = between;
-      returns = record { few = omega (arith, many); given = ran.given };
-      stopped = after;
-      ceases = subst (λ (files : List NewFile). Ceases files between after) (sym none) ceases;
-      closes = none_closed done.streams after;
-      fronts = nothing_begun (Ok done) before after ran.shelves (all_stay between.files after.files ceases.files ∙ back_files ran.shelves before between ran.given);
-    }
-ran_said done text (Err other) before between after none ran none_too = absurd none_too
-
-pub no_files : (running : Running) (done : Done) → IsRunOf running done → done.streams ++ done.files ≡ []
-no_files running done is = ap (λ (d : Done). d.streams ++ d.files) is.is
-
--- where the stores tell their pages it is the text that is due, which fits the room
-pub text_fits : (done : Done) (text : List ℕ) (before between : DeskTold) → IsTrue before.stores_tell_pages → Ran done text before between → length done.said ≤ before.room
-    → length text ≤ between.room
-text_fits done text before between tells ran has = go ran.right where
-  room : between.room ≡ before.room
-  room = ap (λ (desk : DeskTold). desk.room) ran.given.back.rest
-
-  go : IsRight before ran.shelves done.said text → length text ≤ between.room
-  go (inl same) = let long = ap (λ (t : List ℕ). length t) same in omega (arith, long, room, has)
-  go (inr deceived) = let untold = deceived.untold in absurd (cc)
-
-pub ran_steady : (done : Done) (text : List ℕ) (before between : DeskTold) → Ran done text before between → between.steady ≡ before.steady
-ran_steady done text before between ran = ap (λ (desk : DeskTold). desk.steady) ran.given.back.rest
-
--- what is said and written leaves the stores that were given back
-returned_same : (text : List ℕ) (files : List NewFile) (r : Result (Unit {0}) Refusal) (before after : DeskTold) → Finished text files r before after → after.returned ≡ before.returned
-returned_same text files (Ok x) before after finishes = ap (λ (desk : DeskTold). desk.returned) finishes.rest
-returned_same text files (Err refusal.Desk) before after breaks = ap (λ (desk : DeskTold). desk.returned) breaks.rest
-returned_same text files (Err refusal.Memory) before after ceases = ap (λ (desk : DeskTold). desk.returned) ceases.rest
-returned_same text files (Err other) before after none = absurd none
-
-pub still_sound : (text : List ℕ) (files : List NewFile) (r : Result (Unit {0}) Refusal) (before between after : DeskTold) → StoresAreSound before between
-    → Finished text files r between after → StoresAreSound before after
-still_sound text files r before between after sound finished worker =
-    subst (λ (returned : ℕ → Returned). (returned worker).faults ≤ (before.returned worker).faults) (sym (returned_same text files r between after finished)) (sound worker)
-
-pub all_sound : (desk : DeskTold) → StoresAreSound desk desk
-all_sound desk worker = omega arith
 
 -- ---- where no store is lent
 

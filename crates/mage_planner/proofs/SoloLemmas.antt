@@ -30,7 +30,8 @@ use Rattle.mage_source_runs.specs.Moves.{moves_of}
 use Rattle.mage_words.specs.Words.{Solo, SoloRequest}
 use Rattle.mage_planner.specs.declared.refusal.Refusal.{Refusal}
 use Rattle.mage_planner.specs.declared.work.Running.{Running}
-use Rattle.mage_planner.specs.Outcome.{Found, Done, found_in, file_at, file_named, garbler_of, evaluator_of, INPUT_LIMIT, source_of, numbers_of, or_limits, program_for, runs, said_of, solo_outcome}
+use Rattle.mage_planner.specs.Outcome.{Done, source_of, numbers_of, or_limits, program_for, runs, said_of, solo_outcome}
+use Rattle.mage_planner.specs.Found.{Found, found_in, file_at, file_named, garbler_of, evaluator_of, INPUT_LIMIT}
 use Rattle.mage_planner.specs.Work.{CanBeRun, IsRunOf}
 use Rattle.mage_planner.proofs.StepLemmas.{solo-all}
 

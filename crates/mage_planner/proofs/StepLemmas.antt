@@ -13,7 +13,8 @@ use Rattle.mage_words.specs.Words.{Deal, Solo, SoloRequest, StatsRequest, DealRe
 use Rattle.mage_planner.specs.declared.refusal.Refusal.{Refusal}
 use Rattle.mage_planner.specs.declared.refusal.Refusal.TheVariants as refusal
 use Rattle.mage_planner.specs.SummaryText.{summary_text}
-use Rattle.mage_planner.specs.Outcome.{File, Absent, Found, nothing_found, found_in, file_at, file_named, INPUT_LIMIT, SEED_BYTES, Done, says, runs, deals, source_of, costs_of, program_for, numbers_of, seed_of, said_of, solo_outcome, stats_outcome, deal_outcome, outcome_for, outcome_of, asked_of, garbler_of, evaluator_of}
+use Rattle.mage_planner.specs.Outcome.{Done, says, runs, deals, source_of, costs_of, program_for, numbers_of, seed_of, said_of, solo_outcome, stats_outcome, deal_outcome, outcome_for, outcome_of, asked_of}
+use Rattle.mage_planner.specs.Found.{File, Absent, Found, nothing_found, found_in, file_at, file_named, INPUT_LIMIT, SEED_BYTES, garbler_of, evaluator_of}
 use Rattle.mage_planner.specs.Steps.{Refuses}
 
 -- ---- chains

@@ -22,6 +22,11 @@ use Rattle.mage_planner.proofs.WritingLemmas.{both_all, first_stay}
 abbrev pub names_of : List NewFile → List (List ℕ)
 names_of files = map (λ (file : NewFile). file.name) files
 
+-- as many as there are workers
+pub count_files : (stem : List ℕ) (first count : ℕ) → length (worker_files stem first count) ≡ count
+count_files stem first zero = refl
+count_files stem first (suc count) = ap suc (count_files stem (first + 1) count)
+
 -- files of these names with these bytes
 abbrev pub filed : (names contents : List (List ℕ)) → List NewFile
 filed [] contents = []

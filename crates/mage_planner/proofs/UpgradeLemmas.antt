@@ -19,7 +19,8 @@ use Rattle.mage_verify.specs.Faults.{fault_of}
 use Rattle.mage_written.proofs.Files.{earlier_files_come_to_plans}
 use Rattle.mage_written.proofs.Renamed.{renamed_are_read}
 use Rattle.mage_planner.specs.declared.refusal.Refusal.{Refusal}
-use Rattle.mage_planner.specs.Outcome.{File, Done, Held, or_file, first_program_of, renamed_of, unless_faulty, upgrades, upgrade_outcome}
+use Rattle.mage_planner.specs.Outcome.{Done, or_file, first_program_of, renamed_of, unless_faulty, upgrades, upgrade_outcome}
+use Rattle.mage_planner.specs.Found.{File, Held}
 use Rattle.mage_planner.specs.Upgrading.{UpgradesKeepCarried, EarlierFilesComeToTodays}
 
 no_fault : {T : Type 0} (o : Option VerifyFault) (x y : T) → unless_faulty o x ≡ Ok y → (o ≡ None) × (x ≡ y)

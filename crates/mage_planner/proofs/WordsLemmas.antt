@@ -1,11 +1,13 @@
 -- Only words that ask for nothing come to the refusal of words.
-use Rattle.std.proofs.Common.{◌≡◌, ◌==◌, ℕ, List, [], length, Bool, cond, not, true, false, Option, Some, None, Result, Ok, Err, ok_or, refl, sym, ap, subst, ◌∙◌, inl, inr, arith}
+use Rattle.std.proofs.Common.{◌≡◌, ◌==◌, ◌+◌, ◌*◌, ℕ, List, [], ◌∷◌, length, Bool, cond, true, false, Option, Some, None, Result, Ok, Err, ok_or, refl, sym, ap, subst, ◌∙◌, inl, inr, arith}
 use Rattle.mage_chains.specs.Chains.{◌>>=◌}
 use Rattle.mage_base.specs.Desk.{DeskTold}
+use Rattle.mage_instr.specs.declared.instr.Instr.{Instr}
 use Rattle.mage_instr.specs.declared.party.Party.{Party}
 use Rattle.mage_instr.specs.declared.party.Party.TheVariants as party
 use Rattle.mage_instr.specs.declared.replaced.Limits.{Limits}
 use Rattle.mage_instr.specs.Inputs.{input_widths_of}
+use Rattle.mage_label_files.specs.Labels.{labels_from, wires_in}
 use Rattle.mage_lex.specs.declared.fault.LangFault.{LangFault}
 use Rattle.mage_lex.specs.declared.fault.LangFault.TheVariants as lang
 use Rattle.mage_pipe.specs.declared.loaded.Loaded.{Loaded}
@@ -30,16 +32,18 @@ use Rattle.mage_planner.specs.declared.refusal.Refusal.TheVariants as refusal
 use Rattle.mage_planner.specs.declared.status.Status.{Status}
 use Rattle.mage_planner.specs.declared.status.Status.TheVariants as status
 use Rattle.mage_planner.specs.Lines.{status_of}
-use Rattle.mage_planner.specs.Outcome.{File, Absent, Long, Held, Found, Done, SEED_BYTES, says, runs, deals, bytes_or, or_language, or_limits, or_line, long_source, said_of, source_of, costs_of, program_for, if_seed, seed_of, numbers_of, plans, or_file, unless_faulty, long_program, program_of, carry_of, carried_or, first_program_of, renamed_of, upgrades, solo_outcome, stats_outcome, deal_outcome, plan_outcome, check_outcome, upgrade_outcome, gen_outcome, found_for_gen, solo_for, stats_for, generates, generated_files, outcome_for, outcome_of, asked_of, garbles, garble_outcome, driven_outcome, if_built, is_eval}
+use Rattle.mage_planner.specs.Outcome.{Done, says, runs, deals, bytes_or, or_language, or_limits, or_line, long_source, said_of, source_of, costs_of, program_for, if_seed, seed_of, numbers_of, plans, or_file, unless_faulty, long_program, program_of, carry_of, carried_or, first_program_of, renamed_of, upgrades, solo_outcome, stats_outcome, deal_outcome, plan_outcome, check_outcome, upgrade_outcome, gen_outcome, found_for_gen, solo_for, stats_for, generates, generated_files, outcome_for, outcome_of, asked_of, garbles, garble_outcome, if_labels, labels_due, labels_of, evaluates, eval_outcome, driven_outcome}
+use Rattle.mage_planner.specs.Found.{File, Absent, Long, Held, Found, SEED_BYTES}
 use Rattle.mage_planner.specs.SummaryText.{summary_text}
 use Rattle.mage_planner.specs.Warned.{IsOrMemory}
 use Rattle.mage_planner.specs.Answer.{Works, ComesFrom, IsWordsOrMemory, FillsNoStream, WritesNoFile, RunsNothing}
 
--- another refusal than that of the words, and none of a store, or none
+-- another refusal than that of the words, and none of a store or a stream, or none
 abbrev IsOther : Refusal → Type 0
 IsOther refusal.Words = ⊥
 IsOther (refusal.Store worker) = ⊥
 IsOther (refusal.Damaged worker damage) = ⊥
+IsOther (refusal.Stream worker fault) = ⊥
 IsOther other = Unit {0}
 
 abbrev NoWords : {T : Type 0} → Result T Refusal → Type 0
@@ -205,10 +209,35 @@ garble_other found limits stream =
     then_other (seed_of found.seed) (λ seed. Ok (garbles stream loaded.program seed garbler (moves_of program)))
     (seed_other found.seed) (λ seed. tt))))
 
-driven_other : (driver : Driver) → is_eval driver ≡ false → (found : Found) (solo : SoloRequest) → NoWords (driven_outcome driver found solo)
-driven_other (Plain garbler evaluator) none found solo = solo_other found solo
-driven_other (Garble garbler seed stream) none found solo = garble_other found solo.limits stream
-driven_other (Eval stream labels) none found solo = absurd (cc)
+if_labels_other : (wires worker : ℕ) (bytes : List ℕ) → NoWords (if_labels wires worker bytes)
+if_labels_other wires worker bytes = go (length bytes == 16 * wires) where
+  go : (b : Bool) → NoWords (cond b (Ok (labels_from wires bytes)) (Err (refusal.InputLabels worker)))
+  go true = tt
+  go false = tt
+
+due_other : (wires worker : ℕ) (file : File) → NoWords (labels_due wires worker file)
+unfolding labels_due
+due_other wires worker file =
+    then_other (bytes_or (refusal.InputLabels worker) file) (if_labels wires worker) (bytes_other (refusal.InputLabels worker) file tt) (if_labels_other wires worker)
+
+labels_other : (files : ℕ → File) (first : ℕ) (workers : List (List Instr)) → NoWords (labels_of files first workers)
+labels_other files first [] = tt
+labels_other files first (instrs ∷ workers) =
+    then_other (labels_due (wires_in instrs) first (files first)) _ (due_other (wires_in instrs) first (files first)) (λ own.
+    then_other (labels_of files (first + 1) workers) (λ others. Ok (own ∷ others)) (labels_other files (first + 1) workers) (λ others. tt))
+
+eval_other : (found : Found) (limits : Limits) (stream : List ℕ) → NoWords (eval_outcome found limits stream)
+unfolding eval_outcome
+eval_other found limits stream =
+    then_other (source_of found.source) _ (source_other found.source) (λ loaded.
+    then_other (program_for limits loaded) _ (program_other_for limits loaded) (λ program.
+    then_other (labels_of found.labels 0 loaded.program.workers) (λ labels. Ok (evaluates stream loaded.program labels found.streams (moves_of program)))
+    (labels_other found.labels 0 loaded.program.workers) (λ labels. tt)))
+
+driven_other : (driver : Driver) (found : Found) (solo : SoloRequest) → NoWords (driven_outcome driver found solo)
+driven_other (Plain garbler evaluator) found solo = solo_other found solo
+driven_other (Garble garbler seed stream) found solo = garble_other found solo.limits stream
+driven_other (Eval stream labels) found solo = eval_other found solo.limits stream
 
 words_only : (outcome : Result Done Refusal) → NoWords outcome → outcome ≡ Err refusal.Words → ⊥
 words_only (Ok done) other e = cc
@@ -219,13 +248,9 @@ words_only (Err why) other e = words_not why other (cc) where
 
 -- the words ask for nothing where the outcome is their refusal
 asks_nothing : (found : Found) (asked : Option Request)
-    → (ok_or (if_built asked) refusal.Words >>= outcome_for found) ≡ Err refusal.Words → if_built asked ≡ None
+    → (ok_or asked refusal.Words >>= outcome_for found) ≡ Err refusal.Words → asked ≡ None
 asks_nothing found None e = refl
-asks_nothing found (Some (Solo solo)) e = go (is_eval solo.driver) refl e where
-  go : (b : Bool) → is_eval solo.driver ≡ b → (ok_or (cond (not b) (Some (Solo solo)) None) refusal.Words >>= outcome_for found) ≡ Err refusal.Words
-      → cond (not b) (Some (Solo solo)) None ≡ None
-  go false is e = absurd (words_only (driven_outcome solo.driver found solo) (driven_other solo.driver is found solo) e)
-  go true is e = refl
+asks_nothing found (Some (Solo solo)) e = absurd (words_only (driven_outcome solo.driver found solo) (driven_other solo.driver found solo) e)
 asks_nothing found (Some (Stats stats)) e = absurd (words_only (stats_outcome found stats) (stats_other found stats) e)
 asks_nothing found (Some (Deal deal)) e = absurd (words_only (deal_outcome found deal) (deal_other found deal) e)
 asks_nothing found (Some (Plan plan)) e = absurd (words_only (plan_outcome found plan) (plan_other found plan) e)
@@ -245,6 +270,7 @@ from_words refusal.Memory comes = tt
 from_words refusal.Desk comes = let e = comes refl in cc
 from_words (refusal.Store worker) comes = absurd (omega (arith, comes))
 from_words (refusal.Damaged worker damage) comes = absurd (omega (arith, comes))
+from_words (refusal.Stream worker fault) comes = let inside = comes.0 in absurd (omega (arith, inside))
 from_words why comes = cc
 
 -- the status of a warned refusal is that of the words just where these ask for nothing, but for want of
@@ -274,11 +300,11 @@ words_done words before after works = (λ same. cc, λ nothing. rw nothing at wo
 
 -- ---- commands that write no file
 
-then_ok : {A B : Type 0} (r : Result A Refusal) (f : A → Result B Refusal) (y : B) → (r >>= f) ≡ Ok y → (x : A) × (f x ≡ Ok y)
+pub then_ok : {A B : Type 0} (r : Result A Refusal) (f : A → Result B Refusal) (y : B) → (r >>= f) ≡ Ok y → (x : A) × (f x ≡ Ok y)
 then_ok (Ok x) f y is = (x, is)
 then_ok (Err why) f y is = cc
 
-same_done : (x done : Done) → ◌≡◌ {A = Result Done Refusal} (Ok x) (Ok done) → x ≡ done
+pub same_done : (x done : Done) → ◌≡◌ {A = Result Done Refusal} (Ok x) (Ok done) → x ≡ done
 same_done x done is = cc
 
 -- what is done writes no file and fills no stream
@@ -300,11 +326,19 @@ solo_writes_none found solo done is =
     let evaluator = then_ok (numbers_of party.Evaluator loaded.0 found.evaluator) _ done garbler.1 in
     bare_too _ done (refl, refl) evaluator.1
 
+eval_writes_none : (found : Found) (limits : Limits) (stream : List ℕ) (done : Done) → eval_outcome found limits stream ≡ Ok done → IsBare done
+unfolding eval_outcome
+eval_writes_none found limits stream done is =
+    let loaded = then_ok (source_of found.source) _ done is in
+    let program = then_ok (program_for limits loaded.0) _ done loaded.1 in
+    let labels = then_ok (labels_of found.labels 0 loaded.0.program.workers) _ done program.1 in
+    bare_too _ done (refl, refl) labels.1
+
 -- over a driver that fills no stream
 driven_writes_none : (driver : Driver) (found : Found) (solo : SoloRequest) (done : Done) → FillsNoStream driver → driven_outcome driver found solo ≡ Ok done → IsBare done
 driven_writes_none (Plain garbler evaluator) found solo done none is = solo_writes_none found solo done is
 driven_writes_none (Garble garbler seed stream) found solo done none is = absurd none
-driven_writes_none (Eval stream labels) found solo done none is = absurd (cc)
+driven_writes_none (Eval stream labels) found solo done none is = eval_writes_none found solo.limits stream done is
 
 stats_writes_none : (found : Found) (stats : StatsRequest) (done : Done) → stats_outcome found stats ≡ Ok done → IsBare done
 unfolding stats_outcome
@@ -402,17 +436,19 @@ moves_none_of found words done none is = go (asked_of words) none is where
   go (Some (Upgrade upgrade)) none is = upgrade_moves_none found upgrade done is
   go (Some (Gen gen)) none is = absurd none
 
--- ---- no command comes to a fault of a store by its words and files
+-- ---- no command comes to a fault of a store or a stream by its words and files alone
 
--- a fault of a store
+-- a fault of a store or a stream
 abbrev pub IsOfStore : Refusal → Type 0
 IsOfStore (refusal.Store worker) = Unit {0}
 IsOfStore (refusal.Damaged worker damage) = Unit {0}
+IsOfStore (refusal.Stream worker fault) = Unit {0}
 IsOfStore other = ⊥
 
 not_of_store : (why : Refusal) → IsOther why → IsOfStore why → ⊥
 not_of_store (refusal.Store worker) other of = other
 not_of_store (refusal.Damaged worker damage) other of = other
+not_of_store (refusal.Stream worker fault) other of = other
 not_of_store why other of = of
 
 not_store : (r : Result Done Refusal) → NoWords r → (why : Refusal) → IsOfStore why → r ≡ Err why → ⊥
@@ -422,19 +458,15 @@ not_store (Err own) other why of e = let same : own ≡ why = cc in not_of_store
 not_words : (why : Refusal) → IsOfStore why → ◌≡◌ {A = Result Done Refusal} (Err refusal.Words) (Err why) → ⊥
 not_words (refusal.Store worker) of e = cc
 not_words (refusal.Damaged worker damage) of e = cc
+not_words (refusal.Stream worker fault) of e = cc
 not_words why of e = of
-
-by_driver : (found : Found) (why : Refusal) → IsOfStore why → (solo : SoloRequest) (b : Bool) → is_eval solo.driver ≡ b
-    → (ok_or (cond (not b) (Some (Solo solo)) None) refusal.Words >>= outcome_for found) ≡ Err why → ⊥
-by_driver found why of solo false is e = not_store (driven_outcome solo.driver found solo) (driven_other solo.driver is found solo) why of e
-by_driver found why of solo true is e = not_words why of e
 
 pub no_store_fault : (found : Found) (words : List (List ℕ)) (why : Refusal) → IsOfStore why → outcome_of found words ≡ Err why → ⊥
 unfolding outcome_of
 no_store_fault found words why of e = go (request_of words) e where
-  go : (asked : Option Request) → (ok_or (if_built asked) refusal.Words >>= outcome_for found) ≡ Err why → ⊥
+  go : (asked : Option Request) → (ok_or asked refusal.Words >>= outcome_for found) ≡ Err why → ⊥
   go None e = not_words why of e
-  go (Some (Solo solo)) e = by_driver found why of solo (is_eval solo.driver) refl e
+  go (Some (Solo solo)) e = not_store (driven_outcome solo.driver found solo) (driven_other solo.driver found solo) why of e
   go (Some (Stats stats)) e = not_store (stats_outcome found stats) (stats_other found stats) why of e
   go (Some (Deal deal)) e = not_store (deal_outcome found deal) (deal_other found deal) why of e
   go (Some (Plan plan)) e = not_store (plan_outcome found plan) (plan_other found plan) why of e

@@ -1,10 +1,11 @@
 -- What a call answers, against what its command comes to.
-use Rattle.std.specs.Prelude.{◌≡◌, ◌≢◌, ◌≤◌, ◌<◌, ◌+◌, ◌⊎◌, ℕ, List, [], ◌∷◌, ◌++◌, length, map, take, Bool, false, IsTrue, All, Option, Some, None, IsSomeAnd, Result, Ok, Err, IsOkAnd}
+use Rattle.std.specs.Prelude.{◌≡◌, ◌≢◌, ◌≤◌, ◌<◌, ◌+◌, ◌⊎◌, ℕ, List, [], ◌∷◌, ◌++◌, length, map, take, Bool, false, IsTrue, All, Option, Some, None, IsSome, IsSomeAnd, Result, Ok, Err, IsOkAnd}
 use Rattle.mage_base.specs.declared.failure.Damage.{Damage}
 use Rattle.mage_base.specs.Desk.{DeskTold, Files, files_with}
 use Rattle.mage_base.specs.Faults.{Rose}
 use Rattle.mage_base.specs.Store.{StoreTold}
 use Rattle.mage_driver.specs.Rules.{Begins}
+use Rattle.mage_lending.specs.Names.{worker_file}
 use Rattle.mage_source_runs.specs.Moves.{Moves}
 use Rattle.mage_words.specs.Words.{Driver, Plain, Garble, Eval, Request, Solo, Stats, Deal, Plan, Check, Upgrade, Gen}
 use Rattle.mage_planner.specs.declared.refusal.Refusal.{Refusal}
@@ -12,9 +13,29 @@ use Rattle.mage_planner.specs.declared.refusal.Refusal.TheVariants as refusal
 use Rattle.mage_planner.specs.declared.status.Status.{Status}
 use Rattle.mage_planner.specs.declared.status.Status.TheVariants as status
 use Rattle.mage_planner.specs.Lines.{status_of, line_of}
-use Rattle.mage_planner.specs.Outcome.{Done, NewFile}
+use Rattle.mage_planner.specs.declared.refusal.StreamFault.{StreamFault}
+use Rattle.mage_planner.specs.Outcome.{Done, NewFile, Reading}
+use Rattle.mage_planner.specs.Found.{whole_file}
 use Rattle.mage_planner.specs.Stores.{GivesBack, HaveMoved, HasBroken, HasDamaged, IsRight, WereDeceived}
 use Rattle.mage_planner.specs.Warned.{Grows, WarnsLine}
+
+-- ---- streams that are read
+
+-- what is read is the stream files that are there
+abbrev pub ReadsThese : Option Files → Option Reading → Type 0
+ReadsThese told None = Unit {0}
+ReadsThese told (Some reads) =
+    IsSomeAnd told (λ files. (worker : ℕ) → reads.files worker ≡ whole_file (files (worker_file reads.stem worker)))
+
+-- nothing is wrong with the stream of any of so many workers
+abbrev pub NothingIsWrong : (workers : ℕ) → Option Reading → Type 0
+NothingIsWrong workers None = Unit {0}
+NothingIsWrong workers (Some reads) = (worker : ℕ) → worker < workers → reads.wrong worker ≡ None
+
+-- this is wrong with the stream of a worker
+abbrev pub IsWrong : (worker : ℕ) → Refusal → Option Reading → Type 0
+IsWrong worker why None = ⊥
+IsWrong worker why (Some reads) = reads.wrong worker ≡ Some why
 
 -- ---- what a command does
 
@@ -35,14 +56,16 @@ pub record Finishes (text : List ℕ) (written : List NewFile) (before after : D
   }
 
 -- It asks for a store for each worker, moves their pages as often as it has to, and gives them back; it says its text and writes
--- its files and streams. The text, and the bytes of the streams, are others where the stores deceived.
+-- its files and streams. The text, and the bytes of the streams, are others where the stores deceived. Where it reads the desk's
+-- own streams nothing is wrong with them.
 pub record Does (done : Done) (before after : DeskTold) : Type 0 where
   pub shelves : List (List StoreTold)
   pub moved : HaveMoved done.moves shelves
   pub between : DeskTold
   pub given : GivesBack shelves before between
   pub text : List ℕ
-  pub right : IsRight before shelves done.said text
+  pub right : ReadsThese before.files done.reads → IsRight before shelves done.said text
+  pub sound : ReadsThese before.files done.reads → NothingIsWrong (length done.moves) done.reads ⊎ WereDeceived before shelves
   pub filled : List NewFile
   pub right_streams : IsRight before shelves done.streams filled
   pub named : map (λ file. file.name) filled ≡ map (λ file. file.name) done.streams
@@ -66,6 +89,10 @@ streams_of (Err why) = []
 abbrev pub others_of : Result Done Refusal → List NewFile
 others_of (Ok done) = done.files
 others_of (Err why) = []
+
+abbrev pub reads_of : Result Done Refusal → Option Reading
+reads_of (Ok done) = done.reads
+reads_of (Err why) = None
 
 abbrev pub moves_in : Result Done Refusal → List Moves
 moves_in (Ok done) = done.moves
@@ -124,14 +151,14 @@ pub record Fails (outcome : Result Done Refusal) (before after : DeskTold) : Typ
   pub between : DeskTold
   pub returns : Returns (length (moves_in outcome)) shelves before between
   pub text : List ℕ
-  pub right : IsRight before shelves (text_of outcome) text
+  pub right : ReadsThese before.files (reads_of outcome) → IsRight before shelves (text_of outcome) text
   pub breaks : BreaksOff text (files_of outcome) between after
   pub fronts : StreamsBegin outcome before shelves after
 
 -- Streams were closed after a run was stopped: only the count of faults may have risen, and it stays where there are none.
-pub record Closes (streams : List NewFile) (before after : DeskTold) : Type 0 where
+pub record Closes (streams : List NewFile) (reads : Option Reading) (before after : DeskTold) : Type 0 where
   pub rises : before.faults ≤ after.faults
-  pub calm : streams ≡ [] → after.faults ≡ before.faults
+  pub calm : streams ≡ [] → reads ≡ None → after.faults ≡ before.faults
   pub rest : after ≡ record before { faults = after.faults }
 
 -- what want of memory leaves: it may come whenever a command runs, and while it writes its files
@@ -141,7 +168,7 @@ pub record Stops (outcome : Result Done Refusal) (before after : DeskTold) : Typ
   pub returns : Returns (length (moves_in outcome)) shelves before between
   pub stopped : DeskTold
   pub ceases : Ceases (files_of outcome) between stopped
-  pub closes : Closes (streams_of outcome) stopped after
+  pub closes : Closes (streams_of outcome) (reads_of outcome) stopped after
   pub fronts : StreamsBegin outcome before shelves after
 
 -- What a store's fault leaves: nothing is said, and each file stays that isn't one of the command's; of its streams each that was
@@ -154,7 +181,7 @@ pub record Breaks (outcome : Result Done Refusal) (worker : ℕ) (before after :
   pub rose : Rose (before.returned worker).faults (after.returned worker).faults
   pub stopped : DeskTold
   pub ceases : Ceases (files_of outcome) between stopped
-  pub closes : Closes (streams_of outcome) stopped after
+  pub closes : Closes (streams_of outcome) (reads_of outcome) stopped after
   pub fronts : StreamsBegin outcome before shelves after
 
 -- what a damaged page leaves: the same
@@ -165,8 +192,19 @@ pub record Damages (outcome : Result Done Refusal) (worker : ℕ) (damage : Dama
   pub damaged : HasDamaged before shelves worker damage
   pub stopped : DeskTold
   pub ceases : Ceases (files_of outcome) between stopped
-  pub closes : Closes (streams_of outcome) stopped after
+  pub closes : Closes (streams_of outcome) (reads_of outcome) stopped after
   pub fronts : StreamsBegin outcome before shelves after
+
+-- What a fault of a worker's stream leaves: nothing is said and no file written, and where the desk's own streams are read it is what is
+-- wrong with that one, unless the stores deceived. Only the count of faults may have risen as the streams were closed.
+pub record Misreads (outcome : Result Done Refusal) (worker : ℕ) (fault : StreamFault) (before after : DeskTold) : Type 0 where
+  pub reads : IsSome (reads_of outcome)
+  pub shelves : List (List StoreTold)
+  pub between : DeskTold
+  pub returns : Returns (length (moves_in outcome)) shelves before between
+  pub wrong : ReadsThese before.files (reads_of outcome) → IsWrong worker (refusal.Stream worker fault) (reads_of outcome) ⊎ WereDeceived before shelves
+  pub rises : between.faults ≤ after.faults
+  pub rest : after ≡ record between { faults = after.faults }
 
 -- what a refusal leaves before its line is warned; any other leaves all that the desk tells
 abbrev pub Leaves : Result Done Refusal → Refusal → (before after : DeskTold) → Type 0
@@ -174,6 +212,7 @@ Leaves outcome refusal.Desk before after = Fails outcome before after
 Leaves outcome refusal.Memory before after = Stops outcome before after
 Leaves outcome (refusal.Store worker) before after = Breaks outcome worker before after
 Leaves outcome (refusal.Damaged worker damage) before after = Damages outcome worker damage before after
+Leaves outcome (refusal.Stream worker fault) before after = Misreads outcome worker fault before after
 Leaves outcome other before after = after ≡ before
 
 -- ---- the answer
@@ -186,13 +225,14 @@ refusal_of (Err other) = Some other
 
 -- A refusal is the one that the outcome is, but that want of memory may come in its place. The desk's fault
 -- comes where a file is absent, or where the command could not be done to its end; where the desk isn't
--- steady it may come in place of any refusal too. A store's fault and a damaged page come only where nothing is refused, of a worker
--- for whom a store is asked.
+-- steady it may come in place of any refusal too. A store's fault, a damaged page and a fault of a stream come only where nothing is
+-- refused, of a worker for whom a store is asked, and the last only where streams are read.
 abbrev pub ComesFrom : (steady : Bool) → Result Done Refusal → Refusal → Type 0
 ComesFrom steady outcome refusal.Desk = IsTrue steady → refusal_of outcome ≡ None
 ComesFrom steady outcome refusal.Memory = Unit {0}
 ComesFrom steady outcome (refusal.Store worker) = worker < length (moves_in outcome)
 ComesFrom steady outcome (refusal.Damaged worker damage) = worker < length (moves_in outcome)
+ComesFrom steady outcome (refusal.Stream worker fault) = (worker < length (moves_in outcome)) × IsSome (reads_of outcome)
 ComesFrom steady outcome other = outcome ≡ Err other
 
 -- the work before a line is warned: the command is done, or refused
@@ -227,11 +267,12 @@ AnswerCounted before now status.Desk = (before ≤ now) × Rose before now
 AnswerCounted before now other = before ≤ now
 
 -- what is answered of a command that isn't refused, where no count of faults rose
-abbrev pub IsComplete : (tells_pages : Bool) → Status → Type 0
-IsComplete tells_pages status.Ok = Unit {0}
-IsComplete tells_pages status.Memory = Unit {0}
-IsComplete tells_pages status.Damaged = tells_pages ≡ false
-IsComplete tells_pages other = ⊥
+abbrev pub IsComplete : (tells_pages : Bool) → Option Reading → Status → Type 0
+IsComplete tells_pages reads status.Ok = Unit {0}
+IsComplete tells_pages reads status.Memory = Unit {0}
+IsComplete tells_pages reads status.Damaged = tells_pages ≡ false
+IsComplete tells_pages reads status.Stream = IsSome reads
+IsComplete tells_pages reads other = ⊥
 
 -- what words may be answered that ask for nothing
 abbrev pub IsWordsOrMemory : Status → Type 0
@@ -277,6 +318,11 @@ HasRoom desk (Err other) = length (line_of other) ≤ desk.warn_room
 -- where stores are asked for they tell their pages
 abbrev pub TellsStores : DeskTold → Result Done Refusal → Type 0
 TellsStores desk outcome = moves_in outcome ≢ [] → IsTrue desk.stores_tell_pages
+
+-- nothing is wrong with the streams that are read
+abbrev pub StreamsAreRight : Result Done Refusal → Type 0
+StreamsAreRight (Ok done) = NothingIsWrong (length done.moves) done.reads
+StreamsAreRight (Err other) = Unit {0}
 
 -- no count of faults of the stores that were given back rose
 abbrev pub StoresAreSound : (before after : DeskTold) → Type 0

@@ -2,7 +2,8 @@
 use Rattle.std.specs.Prelude.{◌≡◌, ℕ, List, [], ◌∷◌, Ok, codes}
 use Rattle.mage_instr.specs.Limits.{AreInRange}
 use Rattle.mage_words.specs.Words.{PlanRequest, CheckRequest}
-use Rattle.mage_planner.specs.Outcome.{Found, Held, NewFile, Done, says, plan_outcome, check_outcome}
+use Rattle.mage_planner.specs.Outcome.{NewFile, Done, says, plan_outcome, check_outcome}
+use Rattle.mage_planner.specs.Found.{Found, Held}
 
 -- The file that `plan` writes of a source is one of which `check` says, of the same source, that it carries it.
 abbrev pub PlansAreCarried : Type 0

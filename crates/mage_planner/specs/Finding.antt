@@ -3,7 +3,8 @@ use Rattle.std.specs.Prelude.{◌≡◌, Some}
 use Rattle.mage_base.specs.Desk.{Files}
 use Rattle.mage_words.specs.Words.{Solo, Stats, GenRequest, GenIsInRange}
 use Rattle.mage_planner.specs.Answer.{with_files}
-use Rattle.mage_planner.specs.Outcome.{found_in, found_for_gen, generated_files, solo_for, stats_for}
+use Rattle.mage_planner.specs.Outcome.{found_for_gen, generated_files, solo_for, stats_for}
+use Rattle.mage_planner.specs.Found.{found_in}
 
 -- On the files that `gen` leaves, `solo` that names them finds just the source and the input texts that were generated, and so what it
 -- says is what `gen` said behind the summary; and `stats` finds the source.

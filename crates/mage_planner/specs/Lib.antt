@@ -1,6 +1,8 @@
 pub mod Codes
 pub mod Lines
 pub mod SummaryText
+pub mod Evaluated
+pub mod Found
 pub mod Outcome
 pub mod Stores
 pub mod Work
@@ -9,7 +11,10 @@ pub mod Warned
 pub mod Answer
 pub mod Writing
 pub mod Ran
+pub mod EvalRan
 pub mod Garbled
+pub mod EvalAsked
+pub mod SaysPlain
 pub mod Upgrading
 pub mod Checking
 pub mod Finding

@@ -1,5 +1,5 @@
 -- What a command comes to, in the order of work.
-use Rattle.std.specs.Prelude.{ℕ, Bool, true, false, not, zero, suc, ◌+◌, ◌==◌, List, [], ◌∷◌, ◌++◌, length, Option, Some, None, Result, Ok, Err, ok_or, nat_lt, codes, if◌then◌else◌}
+use Rattle.std.specs.Prelude.{ℕ, zero, suc, ◌+◌, ◌*◌, ◌==◌, List, [], ◌∷◌, ◌++◌, length, Option, Some, None, option_map, Result, Ok, Err, ok_or, codes, if◌then◌else◌}
 use Rattle.std.specs.List.{concat}
 use Rattle.std.specs.Fmt.{decimal}
 use Rattle.mage_base.specs.Desk.{Files}
@@ -11,14 +11,18 @@ use Rattle.mage_instr.specs.declared.replaced.Limits.{Limits}
 use Rattle.mage_lex.specs.declared.fault.LangFault.{LangFault}
 use Rattle.mage_lex.specs.declared.fault.LangFault.TheVariants as lang
 use Rattle.mage_lex.specs.declared.fault.LangKind.TheVariants as kind
-use Rattle.mage_lex.specs.Limits.{MOST_BYTES}
 use Rattle.mage_instr.specs.declared.party.Party.{Party}
 use Rattle.mage_instr.specs.declared.party.Party.TheVariants as party
 use Rattle.mage_meaning.specs.Given.{Given}
 use Rattle.mage_meaning.specs.Value.{value_of}
+use Rattle.mage_instr.specs.declared.fault.DriverFault.{DriverFault}
+use Rattle.mage_instr.specs.declared.fault.DriverFault.TheVariants as broken
+use Rattle.mage_instr.specs.declared.instr.Instr.{Instr}
 use Rattle.mage_instr.specs.declared.instr.Program.{Program}
 use Rattle.mage_instr.specs.declared.directive.MemProgram.{MemProgram}
 use Rattle.mage_instr.specs.Inputs.{input_widths_of}
+use Rattle.mage_label.specs.declared.labels.Label.{Label}
+use Rattle.mage_label_files.specs.Labels.{labels_from, wires_in}
 use Rattle.mage_lending.specs.Names.{worker_file}
 use Rattle.mage_linked.specs.Workers.{list_at}
 use Rattle.mage_carry.specs.declared.carry.Carry.{Carry}
@@ -26,7 +30,7 @@ use Rattle.mage_carry.specs.declared.carry.Carry.TheVariants as carry
 use Rattle.mage_carry.specs.Carrying.{carries_of}
 use Rattle.mage_file.specs.declared.fault.FileFault.{FileFault}
 use Rattle.mage_file.specs.declared.fault.FileFault.TheVariants as spelled
-use Rattle.mage_file.specs.Grammar.{most_bytes, most_first_bytes, spelling_of, read_of, read_first_of}
+use Rattle.mage_file.specs.Grammar.{spelling_of, read_of, read_first_of}
 use Rattle.mage_rehome.specs.Rehomed.{rehomed_of}
 use Rattle.mage_verify.specs.declared.fault.VerifyFault.{VerifyFault}
 use Rattle.mage_verify.specs.declared.fault.VerifyFault.TheVariants as verified
@@ -46,106 +50,25 @@ use Rattle.mage_source_runs.specs.Moves.{Moves, moves_of}
 use Rattle.mage_planner.specs.declared.refusal.Refusal.{Refusal}
 use Rattle.mage_planner.specs.declared.refusal.Refusal.TheVariants as refusal
 use Rattle.mage_planner.specs.declared.refusal.ProgramFault.TheVariants as wrong
+use Rattle.mage_planner.specs.declared.refusal.StreamFault.TheVariants as stream
+use Rattle.mage_planner.specs.Evaluated.{fault_with, decoded_with}
+use Rattle.mage_planner.specs.Found.{File, Absent, Long, Held, Found, SEED_BYTES, nothing_found, found_for}
 use Rattle.mage_planner.specs.SummaryText.{summary_text}
 use Rattle.mage_words.specs.Words.{Driver, Plain, Garble, Eval, Request, Solo, Stats, Deal, Plan, Check, Upgrade, Gen, SoloRequest, StatsRequest, DealRequest, PlanRequest, CheckRequest, UpgradeRequest, GenRequest, request_of}
-
--- a file as a fetch with a limit finds it
-pub data File : Type 0 where
-  Absent : File
-  Long : File
-  Held : List ℕ → File
-
-abbrev pub file_of : ℕ → Option (List ℕ) → File
-file_of limit None = Absent
-file_of limit (Some bytes) = if nat_lt limit (length bytes) then Long else Held bytes
-
-abbrev pub file_at : Files → List ℕ → ℕ → File
-file_at files name limit = file_of limit (files name)
-
--- an input text: that of the file, where one is named, and else the empty one
-abbrev pub file_named : Files → Option (List ℕ) → ℕ → File
-file_named files None limit = Held []
-file_named files (Some name) limit = file_at files name limit
-
--- the files that a command reads, as its fetches find them: one that couldn't be read counts as absent
-pub record Found : Type 0 where
-  pub source : File
-  pub garbler : File
-  pub evaluator : File
-  pub seed : File
-  pub program : File
-  -- the label file and the stream file of each worker
-  pub labels : ℕ → File
-  pub streams : ℕ → File
-
--- no file was read
-abbrev pub nothing_found : Found
-nothing_found = record {
-  source = Absent;
-  garbler = Absent;
-  evaluator = Absent;
-  seed = Absent;
-  program = Absent;
-  labels = λ worker. Absent;
-  streams = λ worker. Absent;
-}
-
--- the bytes of a seed
-abbrev pub SEED_BYTES : ℕ
-SEED_BYTES = 32
-
--- the most bytes of an input text
-abbrev pub INPUT_LIMIT : ℕ
-INPUT_LIMIT = 67108864
-
--- the files of a driver's input texts
-abbrev pub garbler_of : Driver → Option (List ℕ)
-garbler_of (Plain garbler evaluator) = garbler
-garbler_of (Garble garbler seed stream) = garbler
-garbler_of (Eval stream labels) = None
-
-abbrev pub evaluator_of : Driver → Option (List ℕ)
-evaluator_of (Plain garbler evaluator) = evaluator
-evaluator_of (Garble garbler seed stream) = None
-evaluator_of (Eval stream labels) = None
-
--- the file of a driver's seed
-abbrev pub seed_for : Files → Driver → File
-seed_for files (Plain garbler evaluator) = Absent
-seed_for files (Garble garbler seed stream) = file_at files seed SEED_BYTES
-seed_for files (Eval stream labels) = Absent
-
--- A source is no longer than a text may be, nor a memory program than its file. What a command doesn't read counts as absent.
-abbrev pub found_in : Files → Request → Found
-found_in files (Solo solo) = record nothing_found {
-  source = file_at files solo.source MOST_BYTES;
-  garbler = file_named files (garbler_of solo.driver) INPUT_LIMIT;
-  evaluator = file_named files (evaluator_of solo.driver) INPUT_LIMIT;
-  seed = seed_for files solo.driver;
-}
-found_in files (Stats stats) = record nothing_found { source = file_at files stats.source MOST_BYTES }
-found_in files (Deal deal) = record nothing_found {
-  source = file_at files deal.source MOST_BYTES;
-  evaluator = file_named files deal.evaluator INPUT_LIMIT;
-  seed = file_at files deal.seed SEED_BYTES;
-}
-found_in files (Plan plan) = record nothing_found { source = file_at files plan.source MOST_BYTES }
-found_in files (Check check) = record nothing_found {
-  source = file_at files check.source MOST_BYTES;
-  program = file_at files check.program most_bytes;
-}
-found_in files (Upgrade upgrade) = record nothing_found { program = file_at files upgrade.program most_first_bytes }
-found_in files (Gen gen) = nothing_found
-
--- where the words ask for nothing, no file is read
-abbrev pub found_for : Files → Option Request → Found
-found_for files None = nothing_found
-found_for files (Some request) = found_in files request
 
 -- one file that a command writes
 pub record NewFile : Type 0 where
   pub name : List ℕ
   pub bytes : List ℕ
+
+-- the streams that a run reads
+pub record Reading : Type 0 where
+  -- what the names of their files begin with
+  pub stem : List ℕ
+  -- each worker's file, as the run finds it
+  pub files : ℕ → File
+  -- what stops the run at the stream of a worker, if anything does
+  pub wrong : (worker : ℕ) → Option Refusal
 
 -- what a command does that isn't refused
 pub record Done : Type 0 where
@@ -157,18 +80,20 @@ pub record Done : Type 0 where
   pub streams : List NewFile
   -- how often it reads and writes the store of each worker; none where it asks for no store
   pub moves : List Moves
+  -- the streams that it reads while its memory program runs, if it does
+  pub reads : Option Reading
 
 -- it says a text, writes no file and asks for no store
 abbrev pub says : List ℕ → Done
-says text = record { said = text; files = []; streams = []; moves = [] }
+says text = record { said = text; files = []; streams = []; moves = []; reads = None }
 
 -- it runs a memory program that moves so many pages, and says a text
 abbrev pub runs : List ℕ → List Moves → Done
-runs text moves = record { said = text; files = []; streams = []; moves = moves }
+runs text moves = record { said = text; files = []; streams = []; moves = moves; reads = None }
 
 -- it says a text and writes files
 abbrev pub says_and_writes : List ℕ → List NewFile → Done
-says_and_writes text files = record { said = text; files = files; streams = []; moves = [] }
+says_and_writes text files = record { said = text; files = files; streams = []; moves = []; reads = None }
 
 -- the bytes of a file, or what its length or its absence is answered with
 abbrev pub bytes_or : Refusal → File → Result (List ℕ) Refusal
@@ -300,6 +225,7 @@ garbles stem program seed garbler moves = record {
   files = [];
   streams = stream_files stem program seed garbler 0 (length program.workers);
   moves = moves;
+  reads = None;
 }
 
 -- what `solo` does over the garbler: it garbles the memory program of the source on the garbler's inputs
@@ -310,6 +236,70 @@ garble_outcome found limits stream = do
   garbler ← numbers_of party.Garbler loaded found.garbler
   seed ← seed_of found.seed
   Ok (garbles stream loaded.program seed garbler (moves_of program))
+
+-- ---- streams that are evaluated
+
+-- the label file of a worker has just 16 bytes for each wire of its inputs of the evaluator
+abbrev pub if_labels : (wires worker : ℕ) → List ℕ → Result (List Label) Refusal
+if_labels wires worker bytes = if length bytes == 16 * wires then Ok (labels_from wires bytes) else Err (refusal.InputLabels worker)
+
+unfoldable pub labels_due : (wires worker : ℕ) → File → Result (List Label) Refusal
+labels_due wires worker file = do
+  bytes ← bytes_or (refusal.InputLabels worker) file
+  if_labels wires worker bytes
+
+-- the labels of workers with these instructions, from this worker on
+abbrev pub labels_of : (ℕ → File) → (first : ℕ) → List (List Instr) → Result (List (List Label)) Refusal
+labels_of files first [] = Ok []
+labels_of files first (instrs ∷ workers) = do
+  own ← labels_due (wires_in instrs) first (files first)
+  others ← labels_of files (first + 1) workers
+  Ok (own ∷ others)
+
+-- a stream's bytes: of one that isn't there there are none
+abbrev pub bytes_held : File → List ℕ
+bytes_held Absent = []
+bytes_held Long = []
+bytes_held (Held bytes) = bytes
+
+-- the streams of so many workers, from this one on
+abbrev pub streams_held : (ℕ → File) → (first count : ℕ) → List (List ℕ)
+streams_held files first zero = []
+streams_held files first (suc count) = bytes_held (files first) ∷ streams_held files (first + 1) count
+
+-- a fault of a worker's stream; a source that fails is the desk's fault
+abbrev pub stream_refusal : (worker : ℕ) → DriverFault → Refusal
+stream_refusal worker (broken.Short place) = refusal.Stream worker (stream.Short place)
+stream_refusal worker (broken.Long place) = refusal.Stream worker (stream.Long place)
+stream_refusal worker (broken.Colour place) = refusal.Stream worker (stream.Colour place)
+stream_refusal worker broken.Sink = refusal.Desk
+stream_refusal worker broken.Source = refusal.Desk
+
+-- what stops a run at a stream: it isn't there, or has a fault
+abbrev pub stops_at : (worker : ℕ) → File → Option DriverFault → Option Refusal
+stops_at worker Absent fault = Some refusal.Desk
+stops_at worker Long fault = Some refusal.Desk
+stops_at worker (Held bytes) fault = option_map (stream_refusal worker) fault
+
+-- It runs a memory program that moves so many pages over the streams, and says what is decoded.
+abbrev pub evaluates : (stem : List ℕ) → Program → (labels : List (List Label)) → (streams : ℕ → File) → List Moves → Done
+evaluates stem program labels streams moves =
+    let held = streams_held streams 0 (length program.workers) in
+    record {
+      said = text_of (decoded_with program labels held);
+      files = [];
+      streams = [];
+      moves = moves;
+      reads = Some (record { stem = stem; files = streams; wrong = λ worker. stops_at worker (streams worker) (fault_with program labels held worker) });
+    }
+
+-- what `solo` does over the evaluator: it evaluates the memory program of the source, with the labels, over the streams
+unfoldable pub eval_outcome : Found → Limits → (stream : List ℕ) → Result Done Refusal
+eval_outcome found limits stream = do
+  loaded ← source_of found.source
+  program ← program_for limits loaded
+  labels ← labels_of found.labels 0 loaded.program.workers
+  Ok (evaluates stream loaded.program labels found.streams (moves_of program))
 
 -- ---- memory programs
 
@@ -444,7 +434,7 @@ found_for_gen gen = record nothing_found {
 
 -- it writes files, and says a summary and then what a run says
 abbrev pub generates : List NewFile → (summary : List ℕ) → (run : Done) → Done
-generates files summary run = record { said = summary ++ run.said; files = files; streams = []; moves = run.moves }
+generates files summary run = record { said = summary ++ run.said; files = files; streams = []; moves = run.moves; reads = None }
 
 -- what `gen` does: it writes the files, and does what `solo` does on them, but that it first says what `stats` says
 unfoldable pub gen_outcome : GenRequest → Result Done Refusal
@@ -455,29 +445,15 @@ gen_outcome gen = do
 
 -- ---- the words
 
-abbrev pub is_eval : Driver → Bool
-is_eval (Plain garbler evaluator) = false
-is_eval (Garble garbler seed stream) = false
-is_eval (Eval stream labels) = true
-
--- whether a command is built: the driver `eval` of `solo` is still to come
-abbrev pub is_built : Request → Bool
-is_built (Solo solo) = not (is_eval solo.driver)
-is_built other = true
-
-abbrev pub if_built : Option Request → Option Request
-if_built None = None
-if_built (Some request) = if is_built request then Some request else None
-
--- what words ask for, of what is built
+-- what words ask for
 abbrev pub asked_of : List (List ℕ) → Option Request
-asked_of words = if_built (request_of words)
+asked_of words = request_of words
 
 -- what `solo` does over a driver
 abbrev pub driven_outcome : Driver → Found → SoloRequest → Result Done Refusal
 driven_outcome (Plain garbler evaluator) found solo = solo_outcome found solo
 driven_outcome (Garble garbler seed stream) found solo = garble_outcome found solo.limits stream
-driven_outcome (Eval stream labels) found solo = Err refusal.Words
+driven_outcome (Eval stream labels) found solo = eval_outcome found solo.limits stream
 
 abbrev pub outcome_for : Found → Request → Result Done Refusal
 outcome_for found (Solo solo) = driven_outcome solo.driver found solo

@@ -1,5 +1,5 @@
 -- What running a memory program over stores of the desk comes to.
-use Rattle.std.specs.Prelude.{◌≡◌, ◌≤◌, ◌<◌, ◌*◌, ◌++◌, ℕ, List, length, map, Vec, Option, Some, None, Result, Ok, Err}
+use Rattle.std.specs.Prelude.{◌≡◌, ◌≤◌, ◌<◌, ◌*◌, ◌++◌, ◌⊎◌, ℕ, List, length, map, Vec, Option, Some, None, Result, Ok, Err}
 use Rattle.std.specs.declared.alloc.Global.{Global}
 use Rattle.mage_base.specs.declared.failure.DeskError.{DeskError}
 use Rattle.mage_base.specs.declared.failure.DeskError.TheVariants as errors
@@ -20,9 +20,9 @@ use Rattle.mage_planner.specs.declared.refusal.Refusal.{Refusal}
 use Rattle.mage_planner.specs.declared.refusal.Refusal.TheVariants as refusal
 use Rattle.mage_planner.specs.declared.work.Garbling.{Garbling}
 use Rattle.mage_planner.specs.Outcome.{Done}
-use Rattle.mage_planner.specs.Answer.{Returns}
+use Rattle.mage_planner.specs.Answer.{NothingIsWrong, ReadsThese, Returns}
 use Rattle.mage_planner.specs.Steps.{RefusalCounted}
-use Rattle.mage_planner.specs.Stores.{GivesBack, HaveMoved, HasBroken, HasDamaged, IsRight}
+use Rattle.mage_planner.specs.Stores.{GivesBack, HaveMoved, HasBroken, HasDamaged, IsRight, WereDeceived}
 
 -- the stores that parts need, where a wire takes so many bytes: as many pages as they name, each of as many wires as they have
 abbrev pub orders_of : (wire_bytes : ℕ) → List WorkerPart → List StoreOrder
@@ -50,12 +50,14 @@ IsHalt workers before shelves after (refusal.Store worker) =
 IsHalt workers before shelves after (refusal.Damaged worker damage) = (worker < workers) × HasDamaged before shelves worker damage
 IsHalt workers before shelves after other = ⊥
 
--- The stores are back that were moved as often as is due, and this text is to be said.
+-- The stores are back that were moved as often as is due, and this text is to be said. Where the desk's own streams were read nothing
+-- is wrong with them.
 pub record Ran (done : Done) (text : List ℕ) (before after : DeskTold) : Type 0 where
   pub shelves : List (List StoreTold)
   pub moved : HaveMoved done.moves shelves
   pub given : GivesBack shelves before after
-  pub right : IsRight before shelves done.said text
+  pub right : ReadsThese before.files done.reads → IsRight before shelves done.said text
+  pub sound : ReadsThese before.files done.reads → NothingIsWrong (length done.moves) done.reads ⊎ WereDeceived before shelves
 
 -- A run of so many workers was stopped by this: the stores are back, and nothing was said and no file written.
 pub record Halted (workers : ℕ) (why : Refusal) (before after : DeskTold) : Type 0 where

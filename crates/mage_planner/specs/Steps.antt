@@ -32,11 +32,12 @@ WorkCounted before now (Ok x) = now ≡ before
 WorkCounted before now (Err refusal.Desk) = (before ≤ now) × Rose before now
 WorkCounted before now (Err other) = before ≤ now
 
--- a refusal other than a fault of the desk or of its stores
+-- a refusal other than a fault of the desk, of its stores or of a stream
 abbrev pub IsNotDesk : Refusal → Type 0
 IsNotDesk refusal.Desk = ⊥
 IsNotDesk (refusal.Store worker) = ⊥
 IsNotDesk (refusal.Damaged worker damage) = ⊥
+IsNotDesk (refusal.Stream worker fault) = ⊥
 IsNotDesk other = Unit {0}
 
 abbrev pub IsNoDeskFault : {T : Type 0} → Result T Refusal → Type 0

@@ -13,7 +13,8 @@ use Rattle.mage_pipe.specs.Loading.{loaded_of}
 use Rattle.mage_pipe.specs.MemoryProgram.{plan_of}
 use Rattle.mage_rehome.specs.Earlier.{earlier_of}
 use Rattle.mage_words.specs.Words.{UpgradeRequest}
-use Rattle.mage_planner.specs.Outcome.{Found, Held, Done, first_program_of, upgrades, upgrade_outcome}
+use Rattle.mage_planner.specs.Outcome.{Done, first_program_of, upgrades, upgrade_outcome}
+use Rattle.mage_planner.specs.Found.{Found, Held}
 
 -- A memory program was read and another one written, under this name, and nothing else: each carries just the programs that the
 -- other carries. What was written is read back, where what was read are bytes.

@@ -9,6 +9,9 @@ use Rattle.mage_instr.specs.declared.replaced.Limits.{Limits}
 use Rattle.mage_instr.specs.Inputs.{input_widths_of}
 use Rattle.mage_instr.specs.Limits.{AreInRange}
 use Rattle.mage_instr.specs.Opcodes.{most_workers}
+use Rattle.mage_garbled_runs.specs.Runs.{AreWhole}
+use Rattle.mage_linked.specs.Workers.{list_at}
+use Rattle.mage_solo.specs.Evaluating.{labels_in}
 use Rattle.mage_texts.specs.InputText.{FitWidths}
 use Rattle.mage_texts.specs.Lists.{lists_of}
 use Rattle.mage_verify.specs.Parts.{parts_of}
@@ -23,11 +26,13 @@ use Rattle.mage_planner.specs.declared.refusal.Refusal.{Refusal}
 use Rattle.mage_planner.specs.declared.work.Work as code
 use Rattle.mage_planner.specs.declared.work.Work.TheVariants as work
 use Rattle.mage_planner.specs.declared.work.Dealing.{Dealing}
+use Rattle.mage_planner.specs.declared.work.Evaluating.{Evaluating}
 use Rattle.mage_planner.specs.declared.work.Garbling.{Garbling}
 use Rattle.mage_planner.specs.declared.work.Generating.{Generating}
 use Rattle.mage_planner.specs.declared.work.Running.{Running}
 use Rattle.mage_planner.specs.declared.work.Writing.{Writing}
-use Rattle.mage_planner.specs.Outcome.{Done, NewFile, says, says_and_writes, runs, garbles, said_of, deals, label_file, ending_file, order_of, generates}
+use Rattle.mage_planner.specs.Outcome.{Done, NewFile, evaluates, says, says_and_writes, runs, garbles, said_of, deals, label_file, ending_file, order_of, generates}
+use Rattle.mage_planner.specs.Found.{File}
 use Rattle.mage_planner.specs.Steps.{Refuses}
 
 -- what is dealt
@@ -78,6 +83,21 @@ pub record IsGarblingOf (garbling : Garbling) (done : Done) : Type 0 where
   pub rooms : garbling.rooms.items ≡ map length_of loaded.program.workers
   pub is : done ≡ garbles garbling.stream.now loaded.program garbling.seed (lists_of garbling.garbler.items) (moves_of plan)
 
+-- An evaluation does this: its parts are those of a source's memory program, its labels are whole, a list for each worker, and its
+-- streams are found so.
+pub record IsEvaluationOf (evaluating : Evaluating) (done : Done) : Type 0 where
+  pub limits : Limits
+  pub text : List ℕ
+  pub loaded : Loaded
+  pub plan : MemProgram
+  pub in_range : AreInRange limits
+  pub loads : loaded_of text ≡ Ok loaded
+  pub planned : memory_program_of limits loaded.program.workers ≡ Ok plan
+  pub parts : evaluating.parts.items ≡ parts_of plan
+  pub whole : (worker : ℕ) → AreWhole (list_at (labels_in evaluating.labels.items) worker)
+  pub streams : ℕ → File
+  pub is : done ≡ evaluates evaluating.stream.now loaded.program (labels_in evaluating.labels.items) streams (moves_of plan)
+
 -- the files that are generated
 abbrev pub files_by : Generating → List NewFile
 files_by generating =
@@ -99,6 +119,7 @@ IsWorkOf (work.Deal dealing) done = done ≡ dealt_by dealing
 IsWorkOf (work.Write writing) done = done ≡ written_by writing
 IsWorkOf (work.Run running) done = IsRunOf running done
 IsWorkOf (work.Garble garbling) done = IsGarblingOf garbling done
+IsWorkOf (work.Evaluate evaluating) done = IsEvaluationOf evaluating done
 IsWorkOf (work.Generate generating) done = IsGenerationOf generating done
 
 -- what is found out does what a command comes to, or the command is refused
@@ -118,6 +139,11 @@ pub record CanBeGarbled (garbling : Garbling) : Type 0 where
   pub garbler : length garbling.garbler.items ≡ length garbling.parts.items
   pub rooms : length garbling.rooms.items ≡ length garbling.parts.items
 
+-- the same of what is evaluated
+pub record CanBeEvaluated (evaluating : Evaluating) : Type 0 where
+  pub verified : AreVerified evaluating.parts.items
+  pub labels : length evaluating.labels.items ≡ length evaluating.parts.items
+
 -- what is dealt is dealt to few workers, and what is run can be run
 abbrev pub CanBeDone : code.Work → Type 0
 CanBeDone (work.Say text) = Unit {0}
@@ -125,4 +151,5 @@ CanBeDone (work.Deal dealing) = length dealing.program.workers ≤ most_workers
 CanBeDone (work.Write writing) = Unit {0}
 CanBeDone (work.Run running) = CanBeRun running
 CanBeDone (work.Garble garbling) = CanBeGarbled garbling
+CanBeDone (work.Evaluate evaluating) = CanBeEvaluated evaluating
 CanBeDone (work.Generate generating) = CanBeRun generating.running

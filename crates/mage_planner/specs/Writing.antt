@@ -5,7 +5,7 @@ use Rattle.mage_base.specs.Faults.{Rose}
 use Rattle.mage_planner.specs.declared.refusal.Refusal.{Refusal}
 use Rattle.mage_planner.specs.declared.refusal.Refusal.TheVariants as refusal
 use Rattle.mage_planner.specs.Outcome.{Done, NewFile}
-use Rattle.mage_planner.specs.Answer.{Finishes, BreaksOff, Ceases, Does, Fails, Stops, Breaks, Damages, OthersStay, with_files}
+use Rattle.mage_planner.specs.Answer.{Finishes, BreaksOff, Ceases, Does, Fails, Stops, Breaks, Damages, Misreads, OthersStay, with_files}
 
 -- what opening a file leaves that is to be written
 abbrev pub Opens : {T : Type 0} → (name : List ℕ) → Result T Refusal → (before after : DeskTold) → Type 0
@@ -52,6 +52,8 @@ Interrupts done refusal.Memory before after = Stops (Ok done) before after
 Interrupts done (refusal.Store worker) before after = (worker < length done.moves) × Breaks (Ok done) worker before after
 Interrupts done (refusal.Damaged worker damage) before after =
     (worker < length done.moves) × Damages (Ok done) worker damage before after
+Interrupts done (refusal.Stream worker fault) before after =
+    (worker < length done.moves) × Misreads (Ok done) worker fault before after
 Interrupts done other before after = ⊥
 
 -- what is to be done is done, or stopped

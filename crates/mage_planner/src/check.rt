@@ -5,7 +5,8 @@ ghost use Rattle.mage_instr.specs.Opcodes.{most_workers};
 ghost use Rattle.mage_instr.specs.Sound.{IsSound};
 ghost use Rattle.mage_words.specs.Answers.{check_view};
 ghost use Rattle.mage_words.specs.Words as words;
-ghost use Rattle.mage_planner.specs.Outcome.{Found, carried_or, carry_of, check_outcome, found_in, says};
+ghost use Rattle.mage_planner.specs.Outcome.{carried_or, carry_of, check_outcome, says};
+ghost use Rattle.mage_planner.specs.Found.{Found, found_in};
 ghost use Rattle.mage_planner.specs.Steps.{Gives, StepCounted, IsNoDeskFault};
 
 use crate::Refusal;

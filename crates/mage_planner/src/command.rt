@@ -5,67 +5,25 @@ ghost use Rattle.mage_words.specs.Words.{LimitsAreInRange, NumbersAreInRange, by
 ghost use Rattle.mage_instr.specs.Limits.{AreInRange};
 ghost use Rattle.mage_words.specs.Answers.{driver_view, request_view, solo_view};
 ghost use Rattle.mage_words.specs.Words as words;
-ghost use Rattle.mage_planner.specs.Outcome.{Done, Found, asked_of, found_in, driven_outcome, if_built, is_built, is_eval, says, outcome_for, outcome_of, outcome_in};
+ghost use Rattle.mage_planner.specs.Outcome.{Done, asked_of, driven_outcome, says, outcome_for, outcome_of, outcome_in};
+ghost use Rattle.mage_planner.specs.Found.{Found, found_in};
 ghost use Rattle.mage_planner.specs.Steps.{Gives, StepCounted, IsNoDeskFault};
-ghost use Rattle.mage_planner.specs.Work.{CanBeDone, CanBeGarbled, CanBeRun, GivesSo, IsGarblingOf, IsGenerationOf, IsRunOf, IsWorkOf, dealt_by, written_by};
+ghost use Rattle.mage_planner.specs.Work.{CanBeDone, CanBeEvaluated, CanBeGarbled, CanBeRun, GivesSo, IsEvaluationOf, IsGarblingOf, IsGenerationOf, IsRunOf, IsWorkOf, dealt_by, written_by};
 
 use crate::Refusal;
 use crate::check::check;
 use crate::deal::deal;
+use crate::eval::{EvalRequest, evaluated};
 use crate::garble::{GarbleRequest, garble};
 use crate::generated::generated;
 use crate::plan::plan;
 use crate::solo::solo;
 use crate::stats::stats;
 use crate::upgrade::upgrade;
-use crate::work::{Dealing, Garbling, Generating, Running, Work, Writing};
+use crate::work::{Dealing, Evaluating, Garbling, Generating, Running, Work, Writing};
 use mage_base::Desk;
 use mage_words::{Driver, Request, Solo, WordsFault, read_words};
 use std::alloc::Global;
-
-// Whether `solo` is to evaluate.
-fn is_eval(driver: Driver<'_>) -> bool
-    ensures { result ≡ is_eval (driver_view driver.entry) }
-{
-    match driver {
-        Driver::Plain { .. } => false,
-        Driver::Garble { .. } => false,
-        Driver::Eval { .. } => true,
-    }
-}
-
-// Whether a command is built.
-fn is_built(request: Request<'_>) -> bool
-    ensures { result ≡ is_built (request_view request.entry) }
-{
-    match request {
-        Request::Solo(solo) => !is_eval(solo.driver),
-        Request::Stats(_) => true,
-        Request::Deal(_) => true,
-        Request::Plan(_) => true,
-        Request::Check(_) => true,
-        Request::Upgrade(_) => true,
-        Request::Gen(_) => true,
-    }
-}
-
-// What is still to come is refused as bad words are.
-fn if_built(request: Request<'_>) -> Result<Request<'_>, Refusal>
-    ensures quiet { (faults : ℕ) → StepCounted faults faults result }
-    ensures no_fault { IsNoDeskFault result }
-    ensures asked { Gives true request_view result
-        (ok_or (if_built (Some (request_view request.entry))) Refusal.Words) }
-    ensures in_range { LimitsAreInRange (request_view request.entry)
-        → IfOk result (λ request. LimitsAreInRange (request_view request)) }
-    ensures numbers { NumbersAreInRange (request_view request.entry)
-        → IfOk result (λ request. NumbersAreInRange (request_view request)) }
-{
-    if is_built(request) {
-        Ok(request)
-    } else {
-        Err(Refusal::Words)
-    }
-}
 
 // What the words ask for.
 fn asked(alloc: Global, words: &[String]) -> Result<Request<'_>, Refusal>
@@ -77,7 +35,7 @@ fn asked(alloc: Global, words: &[String]) -> Result<Request<'_>, Refusal>
     ensures numbers { IfOk result (λ request. NumbersAreInRange (request_view request)) }
 {
     match read_words(alloc, words) {
-        Ok(request) => if_built(request),
+        Ok(request) => Ok(request),
         Err(WordsFault::Words) => Err(Refusal::Words),
         Err(WordsFault::Memory) => Err(Refusal::Memory),
     }
@@ -112,7 +70,15 @@ fn driven<'a, D: Desk>(alloc: Global, request: Solo<'a>, desk: &mut D) -> Result
             };
             to_garble(garble(alloc, request, desk))
         }
-        Driver::Eval { .. } => Err(Refusal::Words),
+        Driver::Eval { stream, labels } => {
+            let request = EvalRequest {
+                source: request.source,
+                limits: request.limits,
+                stream,
+                labels,
+            };
+            to_evaluate(evaluated(alloc, request, desk))
+        }
     }
 }
 
@@ -229,6 +195,22 @@ fn to_garble<'a>(garbling: Result<Garbling<'a>, Refusal>) -> Result<Work<'a>, Re
 {
     match garbling {
         Ok(garbling) => Ok(Work::Garble(garbling)),
+        Err(refusal) => Err(refusal),
+    }
+}
+
+// A memory program is to be evaluated.
+fn to_evaluate<'a>(evaluating: Result<Evaluating<'a>, Refusal>) -> Result<Work<'a>, Refusal>
+    requires { IfOk evaluating CanBeEvaluated }
+    ensures gives { (steady : Bool) (outcome : Result Done Refusal)
+        → GivesSo steady IsEvaluationOf evaluating.entry outcome
+        → GivesSo steady IsWorkOf result outcome }
+    ensures counts { (before now : ℕ) → StepCounted before now evaluating.entry
+        → StepCounted before now result }
+    ensures can { IfOk result CanBeDone }
+{
+    match evaluating {
+        Ok(evaluating) => Ok(Work::Evaluate(evaluating)),
         Err(refusal) => Err(refusal),
     }
 }

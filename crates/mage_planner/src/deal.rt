@@ -4,7 +4,8 @@ ghost use Rattle.mage_instr.specs.Opcodes.{most_workers};
 ghost use Rattle.mage_words.specs.Answers.{deal_view};
 ghost use Rattle.mage_words.specs.Words as words;
 ghost use Rattle.mage_planner.specs.declared.refusal.Refusal.TheVariants as refusals;
-ghost use Rattle.mage_planner.specs.Outcome.{File, Found, SEED_BYTES, bytes_or, deal_outcome, file_at, found_in, if_seed, seed_of};
+ghost use Rattle.mage_planner.specs.Outcome.{bytes_or, deal_outcome, if_seed, seed_of};
+ghost use Rattle.mage_planner.specs.Found.{File, Found, SEED_BYTES, file_at, found_in};
 ghost use Rattle.mage_planner.specs.Steps.{Gives, StepCounted, IsNoDeskFault};
 ghost use Rattle.mage_planner.specs.Work.{dealt_by};
 

@@ -48,8 +48,8 @@ fn ended(fault: Option<RunFault>, closed: Result<(), Failed>) -> Result<(), Refu
     }
 }
 
-// Why streams weren't opened: opening one never finds it too long.
-fn unopened(error: DeskError) -> Refusal
+/// Why streams weren't opened: opening one never finds it too long.
+pub fn unopened(error: DeskError) -> Refusal
     ensures { result ≡ unopened_by error }
 {
     match error {

@@ -5,7 +5,8 @@ ghost use Rattle.mage_instr.specs.Sound.{IsSound};
 ghost use Rattle.mage_texts.specs.Lists.{lists_of};
 ghost use Rattle.mage_texts.specs.InputText.{inputs_of, FitWidths};
 ghost use Rattle.mage_planner.specs.declared.refusal.Refusal.TheVariants as refusals;
-ghost use Rattle.mage_planner.specs.Outcome.{INPUT_LIMIT, File, file_named, bytes_or, or_line, numbers_of};
+ghost use Rattle.mage_planner.specs.Outcome.{bytes_or, or_line, numbers_of};
+ghost use Rattle.mage_planner.specs.Found.{INPUT_LIMIT, File, file_named};
 ghost use Rattle.mage_planner.specs.Steps.{Gives, StepCounted, IsNoDeskFault};
 
 use crate::Refusal;

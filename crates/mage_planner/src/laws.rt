@@ -1,6 +1,7 @@
 // What holds of the files that the commands write.
 ghost use Rattle.mage_planner.specs.Checking.{PlansAreCarried};
 ghost use Rattle.mage_planner.specs.Finding.{GeneratedFilesAreFound};
+ghost use Rattle.mage_planner.specs.SaysPlain.{EvaluatingSaysPlain};
 ghost use Rattle.mage_planner.specs.Upgrading.{EarlierFilesComeToTodays, UpgradesKeepCarried};
 
 /// Where `upgrade` isn't refused, it reads a memory program from a file of the first version, writes one file and says nothing;
@@ -26,4 +27,11 @@ pub fn plans_are_carried()
 /// source. The numbers that `gen` is asked for are in their ranges.
 pub fn generated_files_are_found()
     ensures { GeneratedFilesAreFound }
+{}
+
+/// Where each worker's label file is the one that `deal` writes, and its stream file the one that `solo` garbles, by one seed, `solo`
+/// says over the evaluator what it says in plain on the same numbers, moves as many pages, and finds nothing wrong with any stream.
+/// The limits are in their ranges.
+pub fn evaluating_says_plain()
+    ensures { EvaluatingSaysPlain }
 {}

@@ -5,12 +5,15 @@ mod check;
 mod code;
 mod command;
 mod deal;
+mod eval;
+mod evaluating;
 mod files;
 mod garble;
 mod garbling;
 mod generated;
 mod generating;
 mod inputs;
+mod label_files;
 mod labels;
 mod laws;
 mod line;
@@ -31,8 +34,8 @@ mod warning;
 mod work;
 
 pub use laws::{
-    earlier_files_come_to_todays, generated_files_are_found, plans_are_carried,
-    upgrades_keep_carried,
+    earlier_files_come_to_todays, evaluating_says_plain, generated_files_are_found,
+    plans_are_carried, upgrades_keep_carried,
 };
 pub use mage_texts::{InputFault, read_inputs};
 pub use refusal::{ProgramFault, Refusal, StreamFault};

@@ -1,12 +1,13 @@
 // Doing what a command comes to.
 ghost use Rattle.std.specs.Prelude.{◌≡◌, ◌≢◌, ◌≤◌, [], length, IsTrue, IsSome};
-ghost use Rattle.mage_planner.specs.Answer.{StoresAreSound};
+ghost use Rattle.mage_planner.specs.Answer.{NothingIsWrong, ReadsThese, StoresAreSound};
 ghost use Rattle.mage_planner.specs.Steps.{IsNoDeskFault};
 ghost use Rattle.mage_planner.specs.Work.{CanBeDone, CanBeRun, IsRunOf, IsWorkOf, written_by};
 ghost use Rattle.mage_planner.specs.Outcome.{Done};
 ghost use Rattle.mage_planner.specs.Writing.{Finished, Performs};
 
 use crate::Refusal;
+use crate::evaluating::evaluate_and_say;
 use crate::files::write_file;
 use crate::garbling::garble;
 use crate::generating::generate;
@@ -64,6 +65,8 @@ pub fn perform<D: Desk>(alloc: Global, desk: &mut D, work: Work<'_>) -> Result<(
     ensures steady { (done : Done) → IsWorkOf work.entry done → IsTrue (D.tells desk.old).steady
         → IsSome (D.tells desk.old).files
         → (done.moves ≢ [] → IsTrue (D.tells desk.old).stores_tell_pages)
+        → ReadsThese (D.tells desk.old).files done.reads
+        → NothingIsWrong (length done.moves) done.reads
         → length done.said ≤ (D.tells desk.old).room → IsNoDeskFault result
         × ((D.tells desk.new).faults ≡ (D.tells desk.old).faults) }
     ensures sound { IsNoDeskFault result → StoresAreSound (D.tells desk.old) (D.tells desk.new) }
@@ -74,6 +77,7 @@ pub fn perform<D: Desk>(alloc: Global, desk: &mut D, work: Work<'_>) -> Result<(
         Work::Write(writing) => write_and_say(alloc, desk, &writing),
         Work::Run(running) => run_and_say(alloc, desk, running),
         Work::Garble(garbling) => garble(alloc, desk, garbling),
+        Work::Evaluate(evaluating) => evaluate_and_say(alloc, desk, evaluating),
         Work::Generate(generating) => generate(alloc, desk, generating),
     }
 }

@@ -8,7 +8,8 @@ ghost use Rattle.mage_unroll.specs.Limits.{MOST_INSTRS};
 ghost use Rattle.mage_pipe.specs.Loading.{loaded_of};
 ghost use Rattle.mage_words.specs.Answers.{plan_view};
 ghost use Rattle.mage_words.specs.Words as words;
-ghost use Rattle.mage_planner.specs.Outcome.{Found, costs_of, found_in, plan_outcome, program_for};
+ghost use Rattle.mage_planner.specs.Outcome.{costs_of, plan_outcome, program_for};
+ghost use Rattle.mage_planner.specs.Found.{Found, found_in};
 ghost use Rattle.mage_planner.specs.Steps.{Gives, StepCounted, IsNoDeskFault};
 ghost use Rattle.mage_planner.specs.Work.{written_by};
 

@@ -2,7 +2,8 @@
 ghost use Rattle.std.specs.Prelude.{◌≡◌, ℕ, true, IfSome, IfOk};
 ghost use Rattle.mage_directives.specs.Directives.{IsMemProgram};
 ghost use Rattle.mage_file.specs.Grammar.{most_bytes, read_of};
-ghost use Rattle.mage_planner.specs.Outcome.{File, bytes_or, file_at, file_refusal, long_program, or_file, program_of, verify_refusal};
+ghost use Rattle.mage_planner.specs.Outcome.{bytes_or, file_refusal, long_program, or_file, program_of, verify_refusal};
+ghost use Rattle.mage_planner.specs.Found.{File, file_at};
 ghost use Rattle.mage_planner.specs.Steps.{Gives, StepCounted, IsNoDeskFault};
 
 use crate::{ProgramFault, Refusal};

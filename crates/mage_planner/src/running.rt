@@ -100,8 +100,8 @@ fn run_over<D: Desk>(
     outcome
 }
 
-// The text of what was put out.
-fn text_of(alloc: Global, outputs: &[Vec<u128>]) -> Result<Vec<u8>, Refusal>
+/// The text of what was put out.
+pub fn text_of(alloc: Global, outputs: &[Vec<u128>]) -> Result<Vec<u8>, Refusal>
     ensures text { IfOk result (λ text. text.items ≡ text_of (lists_of outputs.now)) }
     ensures memory { IfErr result (λ why. why ≡ Refusal.Memory) }
 {

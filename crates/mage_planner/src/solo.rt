@@ -6,7 +6,8 @@ ghost use Rattle.mage_verify.specs.Parts.{parts_of};
 ghost use Rattle.mage_verify.specs.Runs.{AreVerified};
 ghost use Rattle.mage_words.specs.Answers.{driver_view, solo_view};
 ghost use Rattle.mage_words.specs.Words as words;
-ghost use Rattle.mage_planner.specs.Outcome.{Found, evaluator_of, found_in, garbler_of, solo_outcome};
+ghost use Rattle.mage_planner.specs.Outcome.{solo_outcome};
+ghost use Rattle.mage_planner.specs.Found.{Found, evaluator_of, found_in, garbler_of};
 ghost use Rattle.mage_planner.specs.Steps.{Gives, StepCounted, IsNoDeskFault};
 ghost use Rattle.mage_planner.specs.Work.{CanBeRun, GivesSo, IsRunOf};
 

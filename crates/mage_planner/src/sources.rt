@@ -5,7 +5,8 @@ ghost use Rattle.mage_instr.specs.Opcodes.{most_workers};
 ghost use Rattle.mage_instr.specs.Sound.{IsSound};
 ghost use Rattle.mage_lex.specs.Limits.{MOST_BYTES};
 ghost use Rattle.mage_pipe.specs.Loading.{loaded_of};
-ghost use Rattle.mage_planner.specs.Outcome.{File, file_at, bytes_or, or_language, lang_refusal, plan_refusal, long_source, source_of, costs_of};
+ghost use Rattle.mage_planner.specs.Outcome.{bytes_or, or_language, lang_refusal, plan_refusal, long_source, source_of, costs_of};
+ghost use Rattle.mage_planner.specs.Found.{File, file_at};
 ghost use Rattle.mage_planner.specs.Steps.{Gives, StepCounted, IsNoDeskFault};
 
 use crate::Refusal;

@@ -4,7 +4,8 @@ ghost use Rattle.mage_instr.specs.Limits.{AreInRange};
 ghost use Rattle.mage_words.specs.Answers.{stats_view};
 ghost use Rattle.mage_words.specs.Words as words;
 ghost use Rattle.mage_planner.specs.SummaryText.{summary_line, summary_text};
-ghost use Rattle.mage_planner.specs.Outcome.{Found, found_in, says, stats_outcome};
+ghost use Rattle.mage_planner.specs.Outcome.{says, stats_outcome};
+ghost use Rattle.mage_planner.specs.Found.{Found, found_in};
 ghost use Rattle.mage_planner.specs.Steps.{Gives, StepCounted, IsNoDeskFault};
 
 use crate::Refusal;

@@ -10,10 +10,12 @@ ghost use Rattle.mage_planner.specs.declared.refusal.Refusal.TheVariants as refu
 ghost use Rattle.mage_planner.specs.Checking.{PlansAreCarried};
 ghost use Rattle.mage_planner.specs.Finding.{GeneratedFilesAreFound};
 ghost use Rattle.mage_planner.specs.Lines.{line_of};
-ghost use Rattle.mage_planner.specs.Outcome.{Found, asked_of, outcome_of, outcome_in};
+ghost use Rattle.mage_planner.specs.Outcome.{asked_of, outcome_of, outcome_in};
+ghost use Rattle.mage_planner.specs.Found.{Found};
+ghost use Rattle.mage_planner.specs.SaysPlain.{EvaluatingSaysPlain};
 ghost use Rattle.mage_planner.specs.Steps.{WorkCounted, IsNoDeskFault};
 ghost use Rattle.mage_planner.specs.Upgrading.{EarlierFilesComeToTodays, UpgradesKeepCarried};
-ghost use Rattle.mage_planner.specs.Answer.{Answers, Works, WritesNoFile, RunsNothing, AnswerCounted, refusal_of, IsComplete, IsWordsOrMemory, HasRoom, TellsStores, StoresAreSound};
+ghost use Rattle.mage_planner.specs.Answer.{Answers, Works, WritesNoFile, RunsNothing, AnswerCounted, reads_of, refusal_of, IsComplete, IsWordsOrMemory, HasRoom, TellsStores, StoresAreSound, StreamsAreRight};
 
 use crate::command::work;
 use crate::perform::perform;
@@ -34,6 +36,7 @@ fn run<D: Desk>(alloc: Global, words: &[String], desk: &mut D) -> Result<(), Ref
         IsNoDeskFault (outcome_in files (bytes_of_words words.now))
         → HasRoom (D.tells desk.old) (outcome_in files (bytes_of_words words.now))
         → TellsStores (D.tells desk.old) (outcome_in files (bytes_of_words words.now))
+        → StreamsAreRight (outcome_in files (bytes_of_words words.now))
         → IsNoDeskFault result × ((D.tells desk.new).faults ≡ (D.tells desk.old).faults)) }
     ensures sound { IsNoDeskFault result → StoresAreSound (D.tells desk.old) (D.tells desk.new) }
     ensures files { WritesNoFile (asked_of (bytes_of_words words.now))
@@ -54,9 +57,10 @@ fn run<D: Desk>(alloc: Global, words: &[String], desk: &mut D) -> Result<(), Ref
     perform(alloc, desk, work)
 }
 
-/// Does what `mage_plan` does with these words (`mage_words::read_words`). `solo` reads the source and the input
-/// texts that they name from the desk, makes the memory program within the limits, asks the desk for a store for each worker, runs
-/// the memory program in plain over them on one thread, gives them back, and says what was put out. `stats` says what a plan for
+/// Does what `mage_plan` does with these words (`mage_words::read_words`). `solo` reads the source, and the files that its driver
+/// names, from the desk, makes the memory program within the limits, asks the desk for a store for each worker, runs the memory program
+/// over them on one thread, and gives them back. In plain it says what was put out; over the garbler it fills the stream file of each
+/// worker; over the evaluator it reads these, and says what is decoded. `stats` says what a plan for
 /// the source costs. `plan` writes this plan, a memory program, and says what it costs. `check` says that a memory program carries the
 /// source. `upgrade` writes a memory program of the file's first version in the second. `gen` writes a source of a given size and its
 /// input texts, does with them what `solo` does, and says what `stats` says of the source and then what `solo` says. `deal` reads the
@@ -65,9 +69,10 @@ fn run<D: Desk>(alloc: Global, words: &[String], desk: &mut D) -> Result<(), Ref
 /// The work goes in this order, and the first thing that is wrong decides the status: words (`Words`), source fetched
 /// (`Desk`), language (`Language`), limits (`Limits`; `deal` and `check` make no plan), for `check` and `upgrade` memory program
 /// fetched, read and verified (`Desk`, `MemoryProgram`), for `check` compared (`CheckNo`), for `solo` garbler text fetched and read
-/// (`Desk`, `InputText`), for `solo` and `deal` evaluator text likewise, for `deal` the seed likewise; for `solo` stores asked for
-/// (`Desk`), the run (`Store`, `Damaged`), stores given back; then files are
-/// written and what is to be said is said (`Desk`). `gen` makes its source first, and writes its files before it asks for stores.
+/// (`Desk`, `InputText`), for `solo` and `deal` evaluator text likewise, for `solo` over the garbler and `deal` the seed likewise, for
+/// `solo` over the evaluator the label file of each worker likewise; for `solo` stores asked for (`Desk`), stream files opened (`Desk`),
+/// the run (`Store`, `Damaged`, for a stream that fails `Desk`, for one that isn't what is due `Stream`), stores given back; then files
+/// are written and what is to be said is said (`Desk`). `gen` makes its source first, and writes its files before it asks for stores.
 /// `Memory` may come at any step.
 ///
 /// With any status but `Ok` one line is warned that says what is wrong and where. A warning that fails changes no
@@ -82,7 +87,8 @@ pub fn planner<D: Desk>(alloc: Global, words: &[String], desk: &mut D) -> Status
     // bytes than were last written, of the same SHA-256 digest.
     // Store comes only where the count of faults of the stores of the worker that the line names rose; Damaged only where the
     // desk's stores don't tell their pages, and that worker's answered a read of the page with another digest than it was written
-    // with. Every store that was handed out is given back, with each answer.
+    // with. Every store that was handed out is given back, with each answer. Stream comes only where a stream is read, and the line
+    // names what is wrong with the desk's own; where something is wrong with one of them, Ok never comes: both unless stores deceived.
     ensures told { IfSome (D.tells desk.old).files (λ files. Answers (D.tells desk.old).steady
         (outcome_in files (bytes_of_words words.now)) result (D.tells desk.old)
         (D.tells desk.new)) }
@@ -113,6 +119,10 @@ pub fn planner<D: Desk>(alloc: Global, words: &[String], desk: &mut D) -> Status
     // What `gen` leaves is what `solo` and `stats` find that name its files.
     ensures generated { GeneratedFilesAreFound }
 
+    // What `solo` says over the evaluator of labels that `deal` writes, and of streams that it garbles, by one seed, is what it says in
+    // plain.
+    ensures evaluated { EvaluatingSaysPlain }
+
     // Words comes just where the words ask for nothing that is built; only want of memory may come in its place.
     ensures words { (result ≡ Status.Words → asked_of (bytes_of_words words.now) ≡ None)
         × (asked_of (bytes_of_words words.now) ≡ None → IsWordsOrMemory result) }
@@ -120,24 +130,29 @@ pub fn planner<D: Desk>(alloc: Global, words: &[String], desk: &mut D) -> Status
     // Desk comes only where the count of faults rose. With Ok it stays.
     ensures cause { AnswerCounted (D.tells desk.old).faults (D.tells desk.new).faults result }
 
-    // It doesn't give up but for want of memory, or a damaged page where the desk's stores don't tell their pages.
+    // It doesn't give up but for want of memory, a damaged page where the desk's stores don't tell their pages, or what is wrong
+    // with a stream that it reads.
     ensures complete { IfSome (D.tells desk.old).files (λ files.
         refusal_of (outcome_in files (bytes_of_words words.now)) ≡ None
         → (Rose (D.tells desk.old).faults (D.tells desk.new).faults → ⊥)
         → ((worker : ℕ) → Rose ((D.tells desk.old).returned worker).faults
         ((D.tells desk.new).returned worker).faults → ⊥)
-        → IsComplete (D.tells desk.old).stores_tell_pages result) }
+        → IsComplete (D.tells desk.old).stores_tell_pages
+        (reads_of (outcome_in files (bytes_of_words words.now))) result) }
 
     // A steady desk doesn't fail that has each file that the command reads, and room for what is said
-    // and warned, and whose stores tell their pages where the command asks for some; nor do its stores.
+    // and warned, and whose stores tell their pages where the command asks for some; nor do its stores, nor the streams that
+    // it reads, where nothing is wrong with them.
     ensures steady { IsTrue (D.tells desk.old).steady → IfSome (D.tells desk.old).files (λ files.
         IsNoDeskFault (outcome_in files (bytes_of_words words.now))
         → HasRoom (D.tells desk.old) (outcome_in files (bytes_of_words words.now))
         → TellsStores (D.tells desk.old) (outcome_in files (bytes_of_words words.now))
+        → StreamsAreRight (outcome_in files (bytes_of_words words.now))
         → length (line_of refusals.Memory) ≤ (D.tells desk.old).warn_room
         → ((D.tells desk.new).faults ≡ (D.tells desk.old).faults)
         × StoresAreSound (D.tells desk.old) (D.tells desk.new)
-        × (result ≢ Status.Desk) × (result ≢ Status.Store) × (result ≢ Status.Damaged)) }
+        × (result ≢ Status.Desk) × (result ≢ Status.Store) × (result ≢ Status.Damaged)
+        × (result ≢ Status.Stream)) }
 
     // A command that writes no file leaves all files.
     ensures files { WritesNoFile (asked_of (bytes_of_words words.now))

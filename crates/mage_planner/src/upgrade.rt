@@ -4,7 +4,8 @@ ghost use Rattle.mage_directives.specs.Directives.{IsMemProgram};
 ghost use Rattle.mage_file.specs.Grammar.{most_bytes, most_first_bytes, read_first_of, spelling_first_of, spelling_of};
 ghost use Rattle.mage_words.specs.Answers.{upgrade_view};
 ghost use Rattle.mage_words.specs.Words as words;
-ghost use Rattle.mage_planner.specs.Outcome.{File, Found, file_at, first_program_of, found_in, or_file, renamed_of, upgrade_outcome};
+ghost use Rattle.mage_planner.specs.Outcome.{first_program_of, or_file, renamed_of, upgrade_outcome};
+ghost use Rattle.mage_planner.specs.Found.{File, Found, file_at, found_in};
 ghost use Rattle.mage_planner.specs.Steps.{Gives, StepCounted, IsNoDeskFault};
 ghost use Rattle.mage_planner.specs.Work.{written_by};
 

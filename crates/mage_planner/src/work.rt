@@ -1,6 +1,7 @@
 // What a command does that isn't refused.
 use mage_gen::Generated;
 use mage_instr::Program;
+use mage_label::Label;
 use mage_verify::Part;
 
 /// What is dealt: the labels of these numbers of the evaluator, by this seed.
@@ -53,6 +54,15 @@ pub struct Garbling<'a> {
     pub rooms: Vec<u64>,
 }
 
+/// A memory program that is evaluated, with the labels of each worker's inputs of the evaluator.
+#[derive(Drop)]
+pub struct Evaluating<'a> {
+    pub parts: Vec<Part>,
+    pub labels: Vec<Vec<Label>>,
+    /// What the names of the stream files begin with.
+    pub stream: &'a str,
+}
+
 /// What a command does that isn't refused.
 #[derive(Drop)]
 pub enum Work<'a> {
@@ -66,6 +76,8 @@ pub enum Work<'a> {
     Run(Running),
     /// To run a memory program over stores of the desk, and to garble into the stream file of each worker.
     Garble(Garbling<'a>),
+    /// To run a memory program over stores of the desk and the stream file of each worker, and to say what is decoded.
+    Evaluate(Evaluating<'a>),
     /// To write a source and its inputs, to run its memory program, and to say what that costs and what it puts out.
     Generate(Generating<'a>),
 }

@@ -1,6 +1,7 @@
 use Rattle.std.proofs.Common.{true}
 use Rattle.mage_words.specs.Answers.{gen_view}
-use Rattle.mage_planner.specs.Outcome.{gen_outcome, nothing_found}
+use Rattle.mage_planner.specs.Outcome.{gen_outcome}
+use Rattle.mage_planner.specs.Found.{nothing_found}
 use Rattle.mage_planner.proofs.GeneratedLemmas.{told_any}
 use Rattle.mage_planner.proofs.command.answer.Goals as goal
 

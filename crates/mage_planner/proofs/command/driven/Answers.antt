@@ -1,11 +1,13 @@
-use Rattle.std.proofs.Common.{refl, subst, ap, true}
+use Rattle.std.proofs.Common.{subst, ap, true}
 use Rattle.std.specs.Option.{option_map}
 use Rattle.std.proofs.lemmas.Option.{IfSome_then}
 use Rattle.mage_words.specs.Answers.{driver_view, solo_view}
-use Rattle.mage_words.specs.Words.{Garble, Solo, SoloRequest}
-use Rattle.mage_planner.specs.Outcome.{found_in, nothing_found, solo_outcome, garble_outcome}
-use Rattle.mage_planner.specs.Work.{GivesSo, IsGarblingOf, IsRunOf, IsWorkOf}
+use Rattle.mage_words.specs.Words.{Eval, Garble, Solo, SoloRequest}
+use Rattle.mage_planner.specs.Outcome.{solo_outcome, garble_outcome, eval_outcome}
+use Rattle.mage_planner.specs.Found.{found_in}
+use Rattle.mage_planner.specs.Work.{GivesSo, IsEvaluationOf, IsGarblingOf, IsRunOf, IsWorkOf}
 use Rattle.mage_planner.proofs.GarbleLemmas.{asked_same, driven_garble, driven_plain}
+use Rattle.mage_planner.proofs.EvalLemmas.{driven_eval}
 use Rattle.mage_planner.proofs.command.driven.Goals as goal
 
 pub returns-in-Plain-clause-cause : goal.returns-in-Plain-clause-cause
@@ -51,5 +53,27 @@ returns-in-Garble-clause-some g c =
           (c.to_garble.ensures.gives _ _ some.1),
     )
 
+pub returns-in-Eval-clause-cause : goal.returns-in-Eval-clause-cause
+returns-in-Eval-clause-cause g c = c.to_evaluate.ensures.counts _ _ c.evaluated.ensures.cause
+
+pub returns-in-Eval-clause-told : goal.returns-in-Eval-clause-told
+returns-in-Eval-clause-told g c =
+    let own : SoloRequest = solo_view c.args.request in
+    let is = ap driver_view c.in-Eval.is in
+    let asked : SoloRequest = record own { driver = Eval c.in-Eval.stream.now c.in-Eval.labels.now } in
+    IfSome_then (g.D.Desk.tells c.args.desk.now).files
+    {P = λ files. GivesSo (g.D.Desk.tells c.args.desk.now).steady IsEvaluationOf c.evaluated.result (eval_outcome (found_in files (Solo asked)) own.limits c.in-Eval.stream.now)}
+    c.evaluated.ensures.told
+    (λ files h. driven_eval (GivesSo (g.D.Desk.tells c.args.desk.now).steady IsWorkOf c.to_evaluate.result) own.driver _ _
+    (found_in files (Solo own)) own is
+    (c.to_evaluate.ensures.gives _ _
+    (subst (λ (r : SoloRequest). GivesSo (g.D.Desk.tells c.args.desk.now).steady IsEvaluationOf c.evaluated.result (eval_outcome (found_in files (Solo r)) own.limits c.in-Eval.stream.now))
+    (asked_same own asked.driver is) h)))
+
 pub returns-in-Eval-clause-some : goal.returns-in-Eval-clause-some
-returns-in-Eval-clause-some g c = (nothing_found, rw c.in-Eval.is refl)
+returns-in-Eval-clause-some g c =
+    let some = c.evaluated.ensures.some in (
+      some.0,
+      driven_eval (GivesSo true IsWorkOf c.to_evaluate.result) (solo_view c.args.request).driver _ _ some.0 (solo_view c.args.request) (ap driver_view c.in-Eval.is)
+          (c.to_evaluate.ensures.gives _ _ some.1),
+    )

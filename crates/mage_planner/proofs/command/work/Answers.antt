@@ -1,6 +1,6 @@
 use Rattle.std.proofs.lemmas.Result.{err_from_is_err_and}
 use Rattle.mage_words.specs.Words.{bytes_of_words}
-use Rattle.mage_planner.specs.Outcome.{Absent}
+use Rattle.mage_planner.specs.Found.{Absent}
 use Rattle.mage_planner.proofs.StepLemmas.{only_source, work-words}
 use Rattle.mage_planner.proofs.command.work.Goals as goal
 

@@ -2,7 +2,7 @@ use Rattle.std.proofs.Common.{ap, ◌∙◌}
 use Rattle.std.proofs.lemmas.Result.{err_from_is_err_and}
 use Rattle.mage_base.specs.Desk.{DeskTold}
 use Rattle.mage_words.specs.Answers.{deal_view}
-use Rattle.mage_planner.specs.Outcome.{Absent}
+use Rattle.mage_planner.specs.Found.{Absent}
 use Rattle.mage_planner.proofs.StepLemmas.{only_source, for_deal, deal-source, deal-evaluator, deal-seed, deal-seed-told, deal-all}
 use Rattle.mage_planner.proofs.deal.deal.Goals as goal
 

@@ -1,5 +1,5 @@
 use Rattle.std.proofs.Common.{refl}
-use Rattle.mage_planner.specs.Outcome.{Held}
+use Rattle.mage_planner.specs.Found.{Held}
 use Rattle.mage_planner.proofs.deal.fetch_seed.Goals as goal
 
 pub returns-in-Ok-clause-some : goal.returns-in-Ok-clause-some

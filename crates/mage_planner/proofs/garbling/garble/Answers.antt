@@ -1,7 +1,8 @@
 use Rattle.std.proofs.Common.{ap, refl, ◌∙◌}
 use Rattle.std.proofs.lemmas.Result.{err_from_is_err_and}
 use Rattle.mage_planner.specs.Ran.{orders_of}
-use Rattle.mage_planner.proofs.RanLemmas.{few_orders, halted, has_lent, lent_so, nothing_done, pages_fit, unlent, unlent_is_sound}
+use Rattle.mage_planner.proofs.RanLemmas.{few_orders, has_lent, lent_so, nothing_done, pages_fit, unlent, unlent_is_sound}
+use Rattle.mage_planner.proofs.HaltedLemmas.{halted}
 use Rattle.mage_planner.proofs.GarbledLemmas.{garbled_count}
 use Rattle.mage_planner.proofs.SteadyLemmas.{unlent_calm}
 use Rattle.mage_planner.proofs.garbling.garble.Goals as goal

@@ -1,5 +1,5 @@
 use Rattle.std.proofs.Common.{refl}
-use Rattle.mage_planner.specs.Outcome.{Held}
+use Rattle.mage_planner.specs.Found.{Held}
 use Rattle.mage_planner.proofs.inputs.fetch_input.Goals as goal
 
 pub returns-in_default-clause-some : goal.returns-in_default-clause-some

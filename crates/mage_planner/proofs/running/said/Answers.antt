@@ -1,6 +1,6 @@
 use Rattle.mage_texts.specs.Lists.{lists_of}
 use Rattle.mage_texts.specs.OutputText.{text_of}
-use Rattle.mage_planner.proofs.RanLemmas.{text_ran}
+use Rattle.mage_planner.proofs.HaltedLemmas.{text_ran}
 use Rattle.mage_planner.proofs.running.said.Goals as goal
 
 pub returns-in-Ok-clause-ran : goal.returns-in-Ok-clause-ran

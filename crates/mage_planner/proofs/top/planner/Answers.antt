@@ -8,6 +8,7 @@ use Rattle.mage_written.proofs.Files.{plans_are_plans}
 use Rattle.mage_planner.proofs.CarriedLemmas.{plans_are_carried}
 use Rattle.mage_planner.proofs.UpgradeLemmas.{upgrades_keep_carried, earlier_files_come_to_todays}
 use Rattle.mage_planner.proofs.GeneratedFiles.{generated_files_are_found}
+use Rattle.mage_planner.proofs.SaysPlainLemmas.{evaluating_says_plain}
 use Rattle.mage_planner.proofs.AnswerLemmas.{answered, answered_files, complete_files, steady_files}
 use Rattle.mage_planner.proofs.WordsLemmas.{words_done, words_refused}
 use Rattle.mage_planner.proofs.top.planner.Goals as goal
@@ -92,3 +93,9 @@ returns-in-Ok-clause-generated g c = generated_files_are_found
 
 pub returns-in-Err-clause-generated : goal.returns-in-Err-clause-generated
 returns-in-Err-clause-generated g c = generated_files_are_found
+
+pub returns-in-Ok-clause-evaluated : goal.returns-in-Ok-clause-evaluated
+returns-in-Ok-clause-evaluated g c = evaluating_says_plain
+
+pub returns-in-Err-clause-evaluated : goal.returns-in-Err-clause-evaluated
+returns-in-Err-clause-evaluated g c = evaluating_says_plain

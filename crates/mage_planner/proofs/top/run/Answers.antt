@@ -10,6 +10,7 @@ use Rattle.mage_planner.specs.Work.{IsWorkOf}
 use Rattle.mage_planner.specs.Writing.{Performs}
 use Rattle.mage_planner.proofs.PerformLemmas.{changes, counts, leaves_files, leaves_stores, refused, refused_steady, steady_told, work_counted, unread, works, works_told}
 use Rattle.mage_planner.proofs.WordsLemmas.{moves_none_of, no_store_fault, writes_none_of}
+use Rattle.mage_planner.proofs.ReadsLemmas.{reads_own}
 use Rattle.mage_planner.proofs.top.run.Goals as goal
 
 pub returns-clause-told : goal.returns-clause-told
@@ -41,7 +42,7 @@ returns-clause-steady g c = λ steady.
     let mid = c.perform.ensures.steady in
     steady_told (g.D.Desk.tells c.args.desk.now) (g.D.Desk.tells c.perform.new.desk) (IsWorkOf c.in_ok-work.work) (g.D.Desk.tells c.args.desk.now).files
     (λ files. outcome_in files (bytes_of_words c.args.words.now)) c.perform.result
-    c.in_ok-work.ensures.told (λ done is. rw same at (mid done is) steady)
+    c.in_ok-work.ensures.told (λ done is. rw same at (mid done is) steady) (reads_own (bytes_of_words c.args.words.now))
 
 pub returns-clause-sound : goal.returns-clause-sound
 returns-clause-sound g c = λ none.
@@ -98,7 +99,7 @@ returns-in_err-work-clause-steady g c = λ steady.
     rw (p.1, p.2) (IfSome_then (g.D.Desk.tells c.args.desk.now).files
     {P = λ files. Refuses (g.D.Desk.tells c.args.desk.now).steady why (outcome_in files (bytes_of_words c.args.words.now))}
     c.in_err-work.ensures.told
-    (λ files h found has tells. refused_steady _ why (outcome_in files (bytes_of_words c.args.words.now)) _ _ steady h c.in_err-work.ensures.cause found))
+    (λ files h found has tells fine. refused_steady _ why (outcome_in files (bytes_of_words c.args.words.now)) _ _ steady h c.in_err-work.ensures.cause found))
 
 pub returns-in_err-work-clause-cause : goal.returns-in_err-work-clause-cause
 returns-in_err-work-clause-cause g c =
