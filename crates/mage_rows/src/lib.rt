@@ -9,6 +9,8 @@ mod deal;
 #[cfg(test)]
 mod desk;
 #[cfg(test)]
+mod eval;
+#[cfg(test)]
 mod garble;
 #[cfg(test)]
 mod generated;
